@@ -49,3 +49,4 @@ pub mod StatingRows
 pub mod RequestRows
 pub mod Crossing
 mod EndingRows
+mod Passing

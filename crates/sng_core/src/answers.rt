@@ -231,8 +231,5 @@ pub fn message_response(alloc: Global, to: Address, code: ReturnCode) -> Result<
 pub fn only(alloc: Global, out: Out) -> Result<OutsPair, AllocError>
     ensures { IfOk result (λ outs. outs ≡ out ∷ []) }
 {
-    let mut outs = Outs::with_capacity(alloc, 1)?;
-    outs.push(out)?;
-    let outs = OutsPair::of(alloc, outs)?;
-    Ok(outs)
+    OutsPair::one(alloc, out)
 }

@@ -62,7 +62,7 @@ impl Parts {
             ≡ connect_next self.old from connect (entry self.old connect)) }
         ensures err { OnErr result (self.new ≡ self.old) }
     {
-        match entry(&self.policy, &self.sessions, &connect)? {
+        match entry(alloc, &self.policy, &self.sessions, &connect)? {
             Outcome::Allowed => {
                 let outs = self.accept(alloc, from, at, connect)?;
                 Ok(outs)

@@ -1,6 +1,7 @@
 //! A PUBLISH of a client at QoS 0 or 1 (MQTT-SN 1.2, 5.4.12, 5.4.13 and 6.6): what is let out is planned
 //! first, with the room for what comes to wait, and what changes cannot fail.
 ghost use Rattle.std.specs.Prelude.{◌≡◌, ◌<◌, ◌∷◌, ◌++◌, [], length, Some, IfOk, OnOk, OnErr};
+ghost use Rattle.std.specs.Prelude.{option_to_list};
 ghost use Rattle.sng_frames.specs.Writing.{written};
 ghost use Rattle.sng_history.specs.Answers.{puback};
 ghost use Rattle.sng_history.specs.State.{qos_of};
@@ -81,11 +82,11 @@ pub fn judged(
     ensures { IfOk result (λ j. j ≡ publish_judged policy.now room (client_at sessions.now place)
         publish.now.flags.id_type publish.now.topic_id) }
 {
-    match may_ask(policy, sessions, place)? {
+    match may_ask(alloc, policy, sessions, place)? {
         Outcome::Allowed => {
             let id_type = publish.flags.id_type;
             let named = name_read(alloc, policy, sessions, place, id_type, publish.topic_id)?;
-            judged_name(policy, room, sessions, place, named)
+            judged_name(alloc, policy, room, sessions, place, named)
         }
         Outcome::Denied(rule) => Ok(unread(rule)),
     }
@@ -109,6 +110,7 @@ fn name_read(
 
 /// How the PUBLISH of a client that may ask comes out, given the name that was read.
 fn judged_name(
+    alloc: Global,
     policy: &InForce,
     room: Outcome,
     sessions: &Sessions,
@@ -121,7 +123,7 @@ fn judged_name(
     match named {
         Ok(name) => {
             let origin = Origin::Client(sessions.id(place).copy()?);
-            let outcome = and_then(exit(policy, &origin, &name)?, room);
+            let outcome = and_then(exit(alloc, policy, &origin, &name)?, room);
             Ok(Judged {
                 name: Some(name),
                 outcome,
@@ -146,17 +148,11 @@ fn noted(
     let who = Who::Client(sessions.id(place).copy()?);
     let name = copy_name(&judged.name)?;
     let outcome = judged.outcome.copy()?;
-    let mut outs = Outs::with_capacity(alloc, 2)?;
-    outs.push(Out::Note(Decision::Publish(who, name, outcome)))?;
-    reply(
-        alloc,
-        publish,
-        sessions.address(place),
-        &judged.outcome,
-        &mut outs,
-    )?;
-    let outs = OutsPair::of(alloc, outs)?;
-    Ok(outs)
+    let note = Out::Note(Decision::Publish(who, name, outcome));
+    match reply(alloc, publish, sessions.address(place), &judged.outcome)? {
+        Some(reply) => OutsPair::two(alloc, note, reply),
+        None => OutsPair::one(alloc, note),
+    }
 }
 
 /// The PUBACK: at QoS 1, and wherever the publish is refused.
@@ -165,29 +161,49 @@ fn reply(
     publish: &Publish,
     to: Address,
     outcome: &Outcome,
-    outs: &mut Outs,
-) -> Result<(), AllocError>
-    ensures { OnOk result (outs.new ≡ outs.old ++ publish_reply to publish.now outcome.now) }
+) -> Result<Option<Out>, AllocError>
+    ensures { IfOk result (λ reply. option_to_list reply ≡ publish_reply to publish.now outcome.now) }
 {
     match outcome {
-        Outcome::Allowed => puback(alloc, to, publish, outs),
-        Outcome::Denied(rule) => puback_of(alloc, to, publish, code_of(rule), outs),
+        Outcome::Allowed => puback(alloc, to, publish),
+        Outcome::Denied(rule) => Ok(Some(puback_with(alloc, to, publish, code_of(rule))?)),
     }
 }
 
 /// The PUBACK of a publish that is allowed, at QoS 1 alone.
-fn puback(alloc: Global, to: Address, publish: &Publish, outs: &mut Outs) -> Result<(), AllocError>
-    ensures { OnOk result (outs.new ≡ outs.old ++ puback to publish.now publish.now.flags.qos) }
+fn puback(alloc: Global, to: Address, publish: &Publish) -> Result<Option<Out>, AllocError>
+    ensures { IfOk result (λ reply. option_to_list reply ≡ puback to publish.now publish.now.flags.qos) }
 {
     match publish.flags.qos {
-        FrameQos::AtLeastOnce => puback_of(alloc, to, publish, ReturnCode::ACCEPTED, outs),
-        FrameQos::AtMostOnce => Ok(()),
-        FrameQos::ExactlyOnce => Ok(()),
-        FrameQos::WithoutSession => Ok(()),
+        FrameQos::AtLeastOnce => {
+            Ok(Some(puback_with(alloc, to, publish, ReturnCode::ACCEPTED)?))
+        }
+        FrameQos::AtMostOnce => Ok(None),
+        FrameQos::ExactlyOnce => Ok(None),
+        FrameQos::WithoutSession => Ok(None),
     }
 }
 
 /// The PUBACK with the publish's TopicId and MsgId and this code.
+fn puback_with(
+    alloc: Global,
+    to: Address,
+    publish: &Publish,
+    code: ReturnCode,
+) -> Result<Out, AllocError>
+    ensures { IfOk result (λ out. out ≡ Out.Send to (written (SnFrame.PublishAck
+        (record { topic_id = publish.now.topic_id; msg_id = publish.now.msg_id; code = code })))) }
+{
+    let ack = TopicAck {
+        topic_id: publish.topic_id,
+        msg_id: publish.msg_id,
+        code,
+    };
+    let datagram = write_publish_ack(alloc, ack)?;
+    Ok(Out::Send(to, Octets::from(datagram)))
+}
+
+/// The same behind what is let out before.
 pub fn puback_of(
     alloc: Global,
     to: Address,
@@ -198,13 +214,7 @@ pub fn puback_of(
     ensures { OnOk result (outs.new ≡ outs.old ++ Out.Send to (written (SnFrame.PublishAck
         (record { topic_id = publish.now.topic_id; msg_id = publish.now.msg_id; code = code }))) ∷ []) }
 {
-    let ack = TopicAck {
-        topic_id: publish.topic_id,
-        msg_id: publish.msg_id,
-        code,
-    };
-    let datagram = write_publish_ack(alloc, ack)?;
-    outs.push(Out::Send(to, Octets::from(datagram)))?;
+    outs.push(puback_with(alloc, to, publish, code)?)?;
     Ok(())
 }
 

@@ -39,7 +39,7 @@ pub fn register(
     ensures err { OnErr result (sessions.new ≡ sessions.old) }
 {
     let msg_id = register.msg_id;
-    let judged = judged(policy, sessions, place, register.name)?;
+    let judged = judged(alloc, policy, sessions, place, register.name)?;
     let outs = noted(alloc, msg_id, sessions, place, &judged)?;
     tell(alloc, clock, judged, sessions, place)?;
     Ok(outs)
@@ -47,6 +47,7 @@ pub fn register(
 
 /// How the REGISTER of this text comes out.
 fn judged(
+    alloc: Global,
     policy: &InForce,
     sessions: &Sessions,
     place: usize,
@@ -55,8 +56,8 @@ fn judged(
     requires { place < length sessions.now }
     ensures { IfOk result (λ j. j ≡ register_judged policy.now (client_at sessions.now place) text) }
 {
-    match may_ask(policy, sessions, place)? {
-        Outcome::Allowed => named(policy, sessions, place, name_given(text)),
+    match may_ask(alloc, policy, sessions, place)? {
+        Outcome::Allowed => named(alloc, policy, sessions, place, name_given(text)),
         Outcome::Denied(rule) => Ok(unread(rule)),
     }
 }
@@ -73,6 +74,7 @@ fn name_given(text: Octets) -> Result<TopicName, Denial>
 
 /// How the REGISTER of a client that may ask comes out, given the name that was read.
 fn named(
+    alloc: Global,
     policy: &InForce,
     sessions: &Sessions,
     place: usize,
@@ -84,7 +86,7 @@ fn named(
     match named {
         Ok(name) => {
             let origin = Origin::Client(sessions.id(place).copy()?);
-            let granted = exit(policy, &origin, &name)?;
+            let granted = exit(alloc, policy, &origin, &name)?;
             let outcome = and_then(granted, id_room(&name, sessions.ids(place)));
             Ok(Judged {
                 name: Some(name),

@@ -28,11 +28,8 @@ impl Parts {
         ensures err { OnErr result (self.new ≡ self.old) }
     {
         if !self.policy.lists_source(source) {
-            return publish_denied(
-                alloc,
-                Who::Source(source),
-                Denial::Grant(GrantDenial::UnknownSource),
-            );
+            let rule = Denial::ungranted(alloc, GrantDenial::UnknownSource)?;
+            return publish_denied(alloc, Who::Source(source), rule);
         }
         match source_name(alloc, &self.policy, publish.flags.id_type, publish.topic_id)? {
             Ok(name) => self.named_ask(alloc, source, name, publish),
@@ -54,7 +51,7 @@ impl Parts {
         ensures err { OnErr result (self.new ≡ self.old) }
     {
         let origin = Origin::Source(source);
-        let verdict = self.verdict(&origin, &name, Qos::AtMostOnce)?;
+        let verdict = self.verdict(alloc, &origin, &name, Qos::AtMostOnce)?;
         let is_allowed = verdict.is_allowed();
         let asked = Decision::Publish(Who::Source(source), Some(name.copy()?), verdict);
         let outs = only(alloc, Out::Note(asked))?;

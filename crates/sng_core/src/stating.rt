@@ -139,12 +139,13 @@ fn judged_text(
     ensures { IfOk result (λ j. j ≡ text_judged policy.now client.now text.now) }
 {
     if !policy.lists(client) {
-        return Ok(unread(Denial::Grant(GrantDenial::NoScope(client.copy()?))));
+        let denial = GrantDenial::NoScope(client.copy()?);
+        return Ok(unread(Denial::ungranted(alloc, denial)?));
     }
     match TopicName::read(alloc, text) {
         Ok(name) => {
             let origin = Origin::Client(client.copy()?);
-            let outcome = exit(policy, &origin, &name)?;
+            let outcome = exit(alloc, policy, &origin, &name)?;
             Ok(Judged {
                 name: Some(name),
                 outcome,

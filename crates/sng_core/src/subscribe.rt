@@ -61,7 +61,7 @@ impl Parts {
         ensures { IfOk result (λ j. j
             ≡ subscribe_judged self.now request.now (client_at self.now.clients place)) }
     {
-        match may_ask(&self.policy, &self.sessions, place)? {
+        match may_ask(alloc, &self.policy, &self.sessions, place)? {
             Outcome::Allowed => self.subscribe_named(alloc, place, request),
             Outcome::Denied(rule) => Ok(unread_filter(rule)),
         }

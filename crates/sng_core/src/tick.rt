@@ -123,6 +123,7 @@ impl Parts {
         );
         all.append(outs, again);
         carry_out(dues, limits, &mut self.sessions, &mut self.link, clock);
+        self.sessions.look_anew(clock);
         ping_broker(&mut self.link, limits, self.is_up, clock, is_due);
         self.policy = policy;
         self.clock = clock;
@@ -145,6 +146,7 @@ impl Parts {
         let outs = OutsPair::of(alloc, outs)?;
         make_room(&mut self.link, 0, dues.as_slice(), is_due)?;
         carry_out(dues, limits, &mut self.sessions, &mut self.link, clock);
+        self.sessions.look_anew(clock);
         ping_broker(&mut self.link, limits, self.is_up, clock, is_due);
         self.clock = clock;
         Ok(outs)
@@ -212,7 +214,7 @@ fn note_ping(is_due: bool, room: Room, outs: &mut Outs) -> Result<(), AllocError
 }
 
 /// What is let out for each client with whom something is due, in order, and what comes of them. The room is
-/// what is left then.
+/// what is left then. Those with whom nothing can be due yet are passed over.
 fn dues(
     alloc: Global,
     policy: &InForce,
@@ -226,9 +228,11 @@ fn dues(
     ensures room { OnOk result (room.new ≡ dues_room clock room.old sessions.now) }
 {
     let mut dues = Vec::new(alloc);
-    for place in 0..sessions.len() {
+    let mut place = sessions.next_due(0, clock);
+    while place < sessions.len() {
         let due = due_with(alloc, policy, clock, sessions, place, room, outs)?;
         add(&mut dues, due)?;
+        place = sessions.next_due(place + 1, clock);
     }
     Ok(dues)
 }

@@ -22,6 +22,7 @@ use std::alloc::{AllocError, Global};
 /// the policy's limits let one more in. An `Err` is a failed allocation, for a denial that shows
 /// the client.
 pub fn entry(
+    alloc: Global,
     policy: &InForce,
     sessions: &Sessions,
     connect: &Connect,
@@ -33,7 +34,7 @@ pub fn entry(
         return Ok(Outcome::Denied(Denial::Form(FormDenial::NotSupported)));
     }
     if !policy.lists(id) {
-        return Ok(Outcome::Denied(Denial::Grant(GrantDenial::NoScope(id.copy()?))));
+        return unlisted(alloc, id);
     }
     if is_known(sessions, id) || sessions.len() < policy.limits().clients() {
         Ok(Outcome::Allowed)
@@ -78,7 +79,12 @@ pub fn copy_name(name: &Option<TopicName>) -> Result<Option<TopicName>, AllocErr
 
 /// Whether the client at this place may ask at all: it has its turn, and the policy lists it. An `Err` is a
 /// failed allocation.
-pub fn may_ask(policy: &InForce, sessions: &Sessions, place: usize) -> Result<Outcome, AllocError>
+pub fn may_ask(
+    alloc: Global,
+    policy: &InForce,
+    sessions: &Sessions,
+    place: usize,
+) -> Result<Outcome, AllocError>
     requires { place < length sessions.now }
     ensures { IfOk result (λ outcome. outcome ≡ may_ask policy.now (client_at sessions.now place)) }
 {
@@ -89,8 +95,16 @@ pub fn may_ask(policy: &InForce, sessions: &Sessions, place: usize) -> Result<Ou
     if policy.lists(id) {
         Ok(Outcome::Allowed)
     } else {
-        Ok(Outcome::Denied(Denial::Grant(GrantDenial::NoScope(id.copy()?))))
+        unlisted(alloc, id)
     }
+}
+
+/// The policy does not list the client.
+fn unlisted(alloc: Global, id: &ClientId) -> Result<Outcome, AllocError>
+    ensures { IfOk result (λ outcome. outcome ≡ Outcome.Denied (Denial.Grant (GrantDenial.NoScope id.now))) }
+{
+    let denial = GrantDenial::NoScope(id.copy()?);
+    Ok(Outcome::Denied(Denial::ungranted(alloc, denial)?))
 }
 
 /// The first of two rules that forbids.
@@ -108,13 +122,14 @@ impl Parts {
     /// that shows the name or the client.
     pub(crate) fn verdict(
         &self,
+        alloc: Global,
         origin: &Origin,
         name: &TopicName,
         qos: Qos,
     ) -> Result<Outcome, AllocError>
         ensures { IfOk result (λ outcome. outcome ≡ verdict self.now origin.now name.now qos) }
     {
-        let judged = exit(&self.policy, origin, name)?;
+        let judged = exit(alloc, &self.policy, origin, name)?;
         Ok(and_then(judged, self.room(qos)))
     }
 

@@ -1,7 +1,7 @@
 //! Why an act was refused.
 ghost use Rattle.std.specs.Prelude.{◌≡◌};
 
-use sng_book::Event;
+use sng_book::ReturnedEvent;
 use thiserror::Error;
 
 /// Why an act was refused.
@@ -22,7 +22,7 @@ pub struct NotActed {
     /// Why it was not acted on.
     pub fault: ActFault,
     /// The event, as it was handed in.
-    pub event: Event,
+    pub event: ReturnedEvent,
 }
 
 impl From<NotActed> for ActFault {

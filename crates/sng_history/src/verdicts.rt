@@ -13,27 +13,37 @@ use sng_text::{ClientId, TopicFilter, TopicName};
 use std::alloc::{AllocError, Global};
 
 /// The judgement of a publish under the name, as it is asked for and again as it leaves.
-pub fn exit(policy: &InForce, origin: &Origin, name: &TopicName) -> Result<Outcome, AllocError>
+pub fn exit(
+    alloc: Global,
+    policy: &InForce,
+    origin: &Origin,
+    name: &TopicName,
+) -> Result<Outcome, AllocError>
     ensures { IfOk result (λ outcome. outcome ≡ exit policy.now origin.now name.now) }
 {
     match origin {
         Origin::Client(client) => {
             let grant = policy.may_publish(client, name);
-            name_outcome(Permission::Publish, Some(client), name, grant)
+            name_outcome(alloc, Permission::Publish, Some(client), name, grant)
         }
         Origin::Source(source) => {
             let grant = policy.source_may_publish(*source, name);
-            name_outcome(Permission::Publish, None, name, grant)
+            name_outcome(alloc, Permission::Publish, None, name, grant)
         }
     }
 }
 
 /// The judgement of a message for the client under the name.
-pub fn receive(policy: &InForce, client: &ClientId, name: &TopicName) -> Result<Outcome, AllocError>
+pub fn receive(
+    alloc: Global,
+    policy: &InForce,
+    client: &ClientId,
+    name: &TopicName,
+) -> Result<Outcome, AllocError>
     ensures { IfOk result (λ outcome. outcome ≡ receive policy.now client.now name.now) }
 {
     let grant = policy.may_receive(client, name);
-    name_outcome(Permission::Subscribe, Some(client), name, grant)
+    name_outcome(alloc, Permission::Subscribe, Some(client), name, grant)
 }
 
 /// The judgement of a subscription of the client by the filter.
@@ -46,11 +56,12 @@ pub fn coverage(
     ensures { IfOk result (λ outcome. outcome ≡ coverage policy.now client.now filter.now) }
 {
     let grant = policy.may_subscribe(alloc, client, filter)?;
-    filter_outcome(client, filter, grant)
+    filter_outcome(alloc, client, filter, grant)
 }
 
 /// What a policy answers about a name to an ask for the permission, by a client or else by a source.
 fn name_outcome(
+    alloc: Global,
     needed: Permission,
     asker: Option<&ClientId>,
     name: &TopicName,
@@ -61,13 +72,14 @@ fn name_outcome(
 {
     match grant {
         NameGrant::Allowed => Ok(Outcome::Allowed),
-        NameGrant::Unlisted => Ok(Outcome::Denied(Denial::Grant(unlisted(asker)?))),
-        NameGrant::Missing => Ok(Outcome::Denied(Denial::Grant(missing(needed, name)?))),
+        NameGrant::Unlisted => denied(alloc, unlisted(asker)?),
+        NameGrant::Missing => denied(alloc, missing(needed, name)?),
     }
 }
 
 /// What a policy answers about a filter.
 fn filter_outcome(
+    alloc: Global,
     client: &ClientId,
     filter: &TopicFilter,
     grant: FilterGrant,
@@ -76,13 +88,16 @@ fn filter_outcome(
 {
     match grant {
         FilterGrant::Allowed => Ok(Outcome::Allowed),
-        FilterGrant::Unlisted => Ok(Outcome::Denied(Denial::Grant(GrantDenial::NoScope(
-            client.copy()?,
-        )))),
-        FilterGrant::Uncovered(gap) => {
-            Ok(Outcome::Denied(Denial::Grant(GrantDenial::Uncovered(filter.copy()?, gap))))
-        }
+        FilterGrant::Unlisted => denied(alloc, GrantDenial::NoScope(client.copy()?)),
+        FilterGrant::Uncovered(gap) => denied(alloc, GrantDenial::Uncovered(filter.copy()?, gap)),
     }
+}
+
+/// For want of a grant.
+fn denied(alloc: Global, denial: GrantDenial) -> Result<Outcome, AllocError>
+    ensures { IfOk result (λ outcome. outcome ≡ Outcome.Denied (Denial.Grant denial)) }
+{
+    Ok(Outcome::Denied(Denial::ungranted(alloc, denial)?))
 }
 
 /// The denial of who is not listed.

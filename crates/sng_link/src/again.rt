@@ -194,7 +194,7 @@ fn sent_again(
         ≡ is_allowed (exit policy.now publication.now.origin publication.now.name)) }
 {
     let name = &publication.name;
-    let outcome = exit(policy, &publication.origin, name)?;
+    let outcome = exit(alloc, policy, &publication.origin, name)?;
     let is_allowed = outcome.is_allowed();
     let who = Who::from(publication.origin.copy()?);
     outs.push(Out::Note(Decision::Again(who, name.copy()?, outcome)))?;

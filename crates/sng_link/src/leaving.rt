@@ -301,7 +301,7 @@ fn forwarded(
         ≡ flight_id publication.now.qos next (exit policy.now publication.now.origin publication.now.name)) }
 {
     let name = &publication.name;
-    let outcome = exit(policy, &publication.origin, name)?;
+    let outcome = exit(alloc, policy, &publication.origin, name)?;
     let is_allowed = outcome.is_allowed();
     let who = Who::from(publication.origin.copy()?);
     outs.push(Out::Note(Decision::Forward(who, name.copy()?, outcome)))?;

@@ -299,8 +299,14 @@ fn greeting_in(alloc: Global, given: Given<'_>) -> Result<Octets, Fault<'_>>
     if MAX_ID_BYTES < id.len() {
         return Err(Fault::Id(given));
     }
-    match ClientId::read(alloc, id) {
-        Ok(_) => Ok(encode_connect(alloc, id, true, KEEP_ALIVE)?),
+    read_id(alloc, given)?;
+    Ok(encode_connect(alloc, id, true, KEEP_ALIVE)?)
+}
+
+/// The word is a client id.
+fn read_id(alloc: Global, given: Given<'_>) -> Result<(), Fault<'_>> {
+    match ClientId::read(alloc, given.word.as_bytes()) {
+        Ok(_) => Ok(()),
         Err(TextFault::Memory) => Err(Fault::Memory),
         Err(_) => Err(Fault::Id(given)),
     }

@@ -7,6 +7,7 @@ use crate::board::Board;
 use crate::count::Count;
 use crate::handover::Handover;
 use crate::level::Level;
+use crate::listening::Listening;
 use crate::shelf::Shelf;
 use crate::token::Token;
 use sng_bounds::answers::Answers;
@@ -49,8 +50,8 @@ pub struct Hub {
     verbosity: AtomicU8,
     /// The clock of the gateway, in ms of Unix time, by the last tick.
     clock_ms: AtomicU64,
-    /// Held by the worker that reads the devices' socket: one reads at a time, so what comes has an order.
-    pub listening: Mutex<()>,
+    /// The right to read the devices' socket.
+    pub listening: Listening,
     /// The right to act and to send.
     pub token: Token,
     /// For which acts of the workers at the socket the worker at the broker was not woken yet.
@@ -117,7 +118,7 @@ impl Hub {
             has_refused_policy: AtomicBool::new(false),
             verbosity: AtomicU8::new(Verbosity::Off.number()),
             clock_ms: AtomicU64::new(0),
-            listening: Mutex::new(()),
+            listening: Listening::new(),
             token: Token::new(),
             backlog: Backlog::new(),
             flood: Mutex::new(flood),

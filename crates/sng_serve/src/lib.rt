@@ -18,6 +18,7 @@ pub mod keeping;
 pub mod level;
 pub mod limits;
 pub mod link;
+pub mod listening;
 pub mod opening;
 pub mod patient;
 mod policies;

@@ -22,7 +22,7 @@ pub const KEPT_VOLUME_ROWS: u64 = 1;
 /// With a book on disk a volume begins with room for so many rows. That is over 32 MiB, which the allocator of
 /// the C library always takes from the system apart and gives back whole, so that volumes which come and go
 /// between threads leave no gaps behind. What no row fills takes no memory (docs/capacity.md).
-pub const KEPT_VOLUME_ROOM: usize = 270_000;
+pub const KEPT_VOLUME_ROOM: usize = 700_000;
 
 /// With a book on disk a worker at the socket hands off a piece of its trail that has so many entries.
 pub const PIECE_ENTRIES: usize = 256;

@@ -22,6 +22,9 @@ use std::time::Duration;
 /// One byte more than the longest datagram that is read, so that a longer one shows.
 const BUFFER_BYTES: usize = MAX_DATAGRAM + 1;
 
+/// So many datagrams that lie in the socket a worker reads before the next one may.
+const MAX_BURST: u32 = 256;
+
 /// So many calls may fail one after another before the socket is taken for lost.
 const MAX_ERRORS: u32 = 100;
 
@@ -46,6 +49,8 @@ pub struct Socket<'a, R: Net + Clock + Wait> {
     /// How many datagrams were lost for want of memory.
     lost: u64,
     errors: u32,
+    /// How many datagrams of a burst it read, one after another, that lay in the socket.
+    burst: u32,
 }
 
 impl<'a, R: Net + Clock + Wait> Socket<'a, R> {
@@ -73,6 +78,7 @@ impl<'a, R: Net + Clock + Wait> Socket<'a, R> {
             unsent: 0,
             lost: 0,
             errors: 0,
+            burst: 0,
         })
     }
 
@@ -118,9 +124,23 @@ impl<'a, R: Net + Clock + Wait> Socket<'a, R> {
         ensures goes_on { result ≢ ended_answer }
     {
         match receive_now(&self.socket, self.buffer.as_mut_slice()) {
-            Some((count, from)) => self.take(from, count),
-            None => self.wait(),
+            Some((count, from)) => {
+                self.burst = self.burst.wrapping_add(1) % MAX_BURST;
+                self.take(from, count)
+            }
+            None => {
+                self.burst = 0;
+                self.wait()
+            }
         }
+    }
+
+    /// Nothing came, or nothing that is acted on: the next one may read.
+    fn end_burst(&mut self)
+        ensures { self.new ≡ record self.old { burst = 0 } }
+    {
+        self.burst = 0;
+        self.hub.listening.give_back(self.rt, self.by);
     }
 
     /// Waits for a datagram. The worker at the broker is woken before, where something may wait for it.
@@ -227,15 +247,20 @@ impl<'a, R: Net + Clock + Wait> Datagrams for Socket<'a, R> {
     /// over, and makes no event.
     fn receive(&mut self) -> Got<(Address, Octets)> {
         let hub = self.hub;
-        let _listening = hub.listening.lock(self.rt);
+        hub.listening.take(self.rt, self.by);
         if hub.stops() {
+            hub.listening.give_back(self.rt, self.by);
             return Got::Nothing;
         }
         let got = self.listen();
         let Got::Came((from, _)) = &got else {
+            self.end_burst();
             return got;
         };
         hub.token.take(self.rt, self.by);
+        if self.burst == 0 {
+            hub.listening.give_back(self.rt, self.by);
+        }
         if self.is_flooded(*from) {
             hub.pass_over(&hub.flooded);
             return Got::Nothing;

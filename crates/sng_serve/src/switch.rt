@@ -130,6 +130,7 @@ impl<'a, R: Clock + Wait> Switch<'a, R> {
         if !self.is_held(by) {
             return;
         }
+        self.hub.listening.give_back(self.rt, by);
         if self.hub.handover.room.begins_to_hold() {
             let waiting = self.hub.handover.room.waiting();
             self.hub.tell(
@@ -272,12 +273,14 @@ impl<'a, R: Clock + Wait> Gate for Switch<'a, R> {
     }
 
     fn short(&self, by: u16) {
+        self.hub.listening.give_back(self.rt, by);
         self.hub.refusals.add(1);
         self.tell_counts(self.roles.of(by));
         thread::sleep(self.rt, Duration::from_millis(SHORT_PAUSE_MS));
     }
 
     fn over(&self, by: u16, fault: Option<WorkerFault>) {
+        self.hub.listening.give_back(self.rt, by);
         self.hub.token.give_back(self.rt, by);
         if let Some(fault) = fault {
             self.take_end(self.roles.of(by), fault);

@@ -13,7 +13,7 @@ use Rattle.sng_sessions.specs.contracts.sessions.Sessions.TheInside as sessions
 sessions_fields : IsSend (sessions.the_field).row
 sessions_fields = struct_send (shape sessions.the_type) (
   search (index.the_send, id.the_send, session.the_send, crosses, sendable) depth 30,
-  (search (index.the_send, address.the_send, crosses, sendable) depth 30, (standing_send, tt)),
+  (search (index.the_send, address.the_send, crosses, sendable) depth 30, (standing_send, (search (crosses, sendable) depth 30, tt))),
 )
 
 sessions_inside : IsSend sessions.the_row

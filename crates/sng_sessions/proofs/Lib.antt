@@ -10,6 +10,7 @@ mod IdLemmas
 mod Looks
 mod Moves
 mod There
+mod DueLemmas
 mod WillLemmas
 mod SleepLemmas
 pub mod Crossing

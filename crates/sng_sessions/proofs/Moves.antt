@@ -180,7 +180,7 @@ holds_at-kept test f keeps (x ∷ xs) (suc at) zero = refl
 holds_at-kept test f keeps (x ∷ xs) (suc at) (suc place) = holds_at-kept test f keeps xs at place
 
 -- no other client moves
-holds_at-other : (test : Client → Bool) (f : Client → Client) (xs : List Client) (at place : ℕ)
+pub holds_at-other : (test : Client → Bool) (f : Client → Client) (xs : List Client) (at place : ℕ)
     → is_place at place ≡ false
     → holds_at test (moved_at at f xs) place ≡ holds_at test xs place
 holds_at-other test f [] at place other = refl
@@ -667,7 +667,7 @@ known-found id (entry ∷ entries) = by (bytes_eq id entry.0) (known-found id en
     by true rest = refl
     by false rest = rest
 
-known-at : (id : List ℕ) (xs : List Client) (place : ℕ) → holds_at (λ x. bytes_eq id x.id) xs place ≡ true
+pub known-at : (id : List ℕ) (xs : List Client) (place : ℕ) → holds_at (λ x. bytes_eq id x.id) xs place ≡ true
     → is_known id xs ≡ true
 known-at id [] place is = absurd (true≢false (sym is))
 known-at id (x ∷ xs) zero is = rw is refl

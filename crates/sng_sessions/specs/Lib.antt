@@ -5,5 +5,6 @@ pub mod Kept
 pub mod Holding
 pub mod Places
 pub mod Handed
+pub mod Dues
 pub mod Willing
 pub mod Sleeping

@@ -4,6 +4,7 @@
 #![tactic(auto)]
 
 pub mod copying;
+mod dues;
 pub mod filters;
 pub mod handing;
 pub mod ids;

@@ -1,5 +1,6 @@
 //! Changes of the clients together with the index from addresses to their places.
-ghost use Rattle.std.specs.Prelude.{◌≡◌, ℕ, ◌<◌, ◌≤◌, true, false, List, [], Some, None, map, position};
+ghost use Rattle.std.specs.Prelude.{◌≡◌, ℕ, ◌<◌, ◌≤◌, true, false, List, [], Some, None, length, map};
+ghost use Rattle.std.specs.Prelude.{position};
 ghost use Rattle.std.specs.Prelude.{if◌then◌else◌, OnOk, OnErr};
 ghost use Rattle.std.specs.Option.{ForSome};
 ghost use Rattle.std.specs.Str.{bytes_eq};
@@ -15,6 +16,7 @@ ghost use Rattle.sng_sessions.specs.Willing.{phase_opened, wills_opened};
 ghost use Rattle.sng_history.specs.Clients.{let_in, lost, told};
 ghost use Rattle.sng_history.specs.State.{is_known};
 ghost use Rattle.sng_history.specs.Entering.{heard_at, left_at, entered};
+ghost use Rattle.sng_sessions.specs.Dues.{Waits, WaitsBeside};
 ghost use Rattle.sng_sessions.specs.Kept.{SaysHeld, SameOfOthers, Keeps};
 ghost use Rattle.sng_sessions.specs.Standing.{client_at, told_at};
 ghost use Rattle.sng_sessions.specs.Places.{clients_of, holds_at, stands_at, is_place, presence_in, was_at};
@@ -117,6 +119,8 @@ pub fn admit(
     ensures clients { clients_of clients.new.entries
         ≡ entered clock from connect (clients_of clients.old.entries) }
     ensures indexed { Indexed (get same_address places.new) (clients_of clients.new.entries) }
+    ensures beside { (times : List ℕ) → Waits times (clients_of clients.old.entries)
+        → WaitsBeside (length clients.old.entries) times (clients_of clients.new.entries) }
 {
     vacate(clients, places, from, &connect.client_id, clock);
     let NewTables {
@@ -162,6 +166,8 @@ pub fn readmit(
     ensures clients { clients_of clients.new.entries
         ≡ entered clock from connect.now (clients_of clients.old.entries) }
     ensures indexed { Indexed (get same_address places.new) (clients_of clients.new.entries) }
+    ensures beside { (times : List ℕ) → Waits times (clients_of clients.old.entries)
+        → WaitsBeside place times (clients_of clients.new.entries) }
     ensures kept { Keeps standing.new (clients_of clients.new.entries) }
 {
     // `len` is called for its clause that the keys are apart.

@@ -1,6 +1,6 @@
 //! The clients of the gateway, in the order in which each was accepted first, and where each is.
-ghost use Rattle.std.specs.Prelude.{◌≡◌, ◌<◌, ◌+◌, ◌||◌, [], length, take, drop, false, Some, IfSome, OnOk};
-ghost use Rattle.std.specs.Prelude.{OnErr, IfOk};
+ghost use Rattle.std.specs.Prelude.{◌≡◌, ◌<◌, ◌≤◌, ◌+◌, ◌||◌, ℕ, [], length, take, drop, false, Some, IfSome};
+ghost use Rattle.std.specs.Prelude.{OnOk, OnErr, IfOk};
 ghost use Rattle.std.specs.Option.{ForSome};
 ghost use Rattle.sng_fan.specs.Subscriptions.{is_full, IsOneClients};
 ghost use Rattle.sng_fan.specs.Greatest.{greatest_qos};
@@ -13,7 +13,8 @@ ghost use Rattle.sng_ids.specs.Ids.{is_full_for};
 ghost use Rattle.sng_book.specs.declared.outcome.Outcome.TheVariants.{Allowed};
 ghost use Rattle.sng_history.specs.Entering.{heard_at, left_at, entered};
 ghost use Rattle.sng_sessions.specs.Standing.{place_at, place_of, client_at, told_at, subscribed_at};
-ghost use Rattle.sng_sessions.specs.Places.{moved_at};
+ghost use Rattle.sng_sessions.specs.Dues.{is_due};
+ghost use Rattle.sng_sessions.specs.Places.{holds_at, moved_at};
 ghost use Rattle.sng_sessions.specs.Holding.{holders_from, places_from};
 ghost use Rattle.sng_sessions.specs.Handed.{delivered, handed_by, answered};
 ghost use Rattle.sng_sessions.specs.Kept.{Keeps, SaysHeld, SameOfOthers};
@@ -21,6 +22,7 @@ ghost use Rattle.sng_sessions.specs.Sleeping.{changed};
 ghost use Rattle.sng_sessions.specs.Willing.{stating_at};
 
 use crate::copying::SessionsCopy;
+use crate::dues::{add_block, look_anew, next_due, note_due};
 use crate::filters::ClientFilters;
 use crate::handing::{Handed, Opens, answer_at, deliver_at, hand_at};
 use crate::ids::{ClientIds, NewName};
@@ -48,12 +50,15 @@ pub struct Sessions {
     clients: IndexMap<ClientId, Session>,
     places: IndexMap<Address, usize>,
     standing: Standing,
+    /// For each block of places, in order, a time before which nothing is due with a client of it.
+    times: Vec<u64>,
 }
 
 impl Model for Sessions {
     ghost use Rattle.std.specs.Prelude.{List};
     ghost use Rattle.indexmap.specs.IndexMap.{get};
     ghost use Rattle.sng_history.specs.Clients.{Client, same_address};
+    ghost use Rattle.sng_sessions.specs.Dues.{Waits};
     ghost use Rattle.sng_sessions.specs.Kept.{Keeps};
     ghost use Rattle.sng_sessions.specs.Places.{clients_of, Indexed};
 
@@ -61,10 +66,11 @@ impl Model for Sessions {
 
     ghost view = { λ s. clients_of s.clients.entries };
 
-    // An address leads to the client that is there, so no two clients are at one; and the tree of filters
-    // says what each client holds.
+    // An address leads to the client that is there, so no two clients are at one; the tree of filters says what
+    // each client holds; and before the times of the blocks nothing is due.
     ghost invariant = { λ s. Indexed (get same_address s.places) (clients_of s.clients.entries)
-        × Keeps s.standing (clients_of s.clients.entries) };
+        × (Keeps s.standing (clients_of s.clients.entries)
+        × Waits s.times.items (clients_of s.clients.entries)) };
 }
 
 impl Sessions {
@@ -76,6 +82,7 @@ impl Sessions {
             clients: IndexMap::new(alloc),
             places: IndexMap::new(alloc),
             standing: Standing::new(alloc),
+            times: Vec::new(alloc),
         }
     }
 
@@ -274,6 +281,7 @@ impl Sessions {
         ensures { self.new ≡ moved_at place (told_at clock (Some name) Allowed) self.old }
     {
         tell_at(&mut self.clients, place, name, clock);
+        note_due(&mut self.times, &self.clients, place);
     }
 
     /// The client at this place is heard. Takes no memory.
@@ -281,6 +289,7 @@ impl Sessions {
         ensures { self.new ≡ moved_at place (heard_at clock) self.old }
     {
         hear_at(&mut self.clients, place, clock);
+        note_due(&mut self.times, &self.clients, place);
     }
 
     /// A message comes to wait for the client at this place, where fewer wait than may, and an exchange
@@ -289,6 +298,7 @@ impl Sessions {
         ensures { self.new ≡ moved_at place (delivered clock message opens) self.old }
     {
         deliver_at(&mut self.clients, place, message, opens, clock);
+        note_due(&mut self.times, &self.clients, place);
     }
 
     /// A hand-over to the client at this place is carried out. Takes no memory.
@@ -296,6 +306,7 @@ impl Sessions {
         ensures { self.new ≡ moved_at place (handed_by clock handed) self.old }
     {
         hand_at(&mut self.clients, place, handed, clock);
+        note_due(&mut self.times, &self.clients, place);
     }
 
     /// The client at this place is heard, knows the id (0 is none), and has no exchange open any more; what
@@ -304,6 +315,7 @@ impl Sessions {
         ensures { self.new ≡ moved_at place (answered clock id) self.old }
     {
         answer_at(&mut self.clients, place, id, clock);
+        note_due(&mut self.times, &self.clients, place);
     }
 
     /// The client at this place leaves, and its address is free. Takes no memory.
@@ -311,6 +323,7 @@ impl Sessions {
         ensures { self.new ≡ moved_at place (left_at clock) self.old }
     {
         leave_at(&mut self.clients, &mut self.places, place, clock);
+        note_due(&mut self.times, &self.clients, place);
     }
 
     /// The client at this place is lost, and its address is free. Its subscriptions, its will and its ids
@@ -319,6 +332,7 @@ impl Sessions {
         ensures { self.new ≡ moved_at place lost self.old }
     {
         lose_at(&mut self.clients, &mut self.places, place);
+        note_due(&mut self.times, &self.clients, place);
     }
 
     /// This happens to the client at this place. Takes no memory.
@@ -326,6 +340,7 @@ impl Sessions {
         ensures { self.new ≡ moved_at place (changed clock change) self.old }
     {
         change_at(&mut self.clients, place, change, clock);
+        note_due(&mut self.times, &self.clients, place);
     }
 
     /// The client at this place is heard, and its will is as it states; what is out of turn changes nothing
@@ -334,6 +349,7 @@ impl Sessions {
         ensures { self.new ≡ moved_at place (stating_at clock stating) self.old }
     {
         state_at(&mut self.clients, place, stating, clock);
+        note_due(&mut self.times, &self.clients, place);
     }
 
     /// The client at this place is heard, and the filter stands for it at this QoS; where it stood it keeps
@@ -357,6 +373,7 @@ impl Sessions {
         let (clients, standing) = (&mut self.clients, &mut self.standing);
         stand_at(clients, standing, alloc, place, filter, qos)?;
         tell_if(&mut self.clients, place, name, clock);
+        note_due(&mut self.times, &self.clients, place);
         Ok(())
     }
 
@@ -373,6 +390,7 @@ impl Sessions {
         ensures { self.new ≡ moved_at place (without filter.now) self.old }
     {
         end_at(&mut self.clients, &mut self.standing, place, filter);
+        note_due(&mut self.times, &self.clients, place);
     }
 
     /// A CONNECT from this address is accepted: whoever else is there leaves. An `Err` is a failed
@@ -400,6 +418,7 @@ impl Sessions {
                     &connect,
                     clock,
                 );
+                note_due(&mut self.times, &self.clients, place);
                 Ok(())
             }
             None => {
@@ -410,11 +429,33 @@ impl Sessions {
                     wills: WillDialogue::new(alloc),
                 };
                 self.clients.reserve(1)?;
+                let place = self.clients.len();
+                add_block(&mut self.times, place)?;
                 let (clients, places) = (&mut self.clients, &mut self.places);
                 admit(clients, places, from, connect, tables, clock);
+                note_due(&mut self.times, &self.clients, place);
                 Ok(())
             }
         }
+    }
+
+    /// The first place from this one on at which anything may be due with a client as the clock is at this, in
+    /// ms; behind the last where there is none. Takes no memory.
+    pub fn next_due(&self, place: usize, clock: u64) -> usize
+        requires { place ≤ length self.now }
+        ensures after { place ≤ result }
+        ensures quiet { (other : ℕ) → place ≤ other → other < result
+            → holds_at (is_due clock) self.now other ≡ false }
+    {
+        next_due(&self.times, self.clients.len(), place, clock)
+    }
+
+    /// Where anything may have been due as the clock is at this, in ms, the clients are looked at anew. Nothing
+    /// changes that contracts see. Takes no memory.
+    pub fn look_anew(&mut self, clock: u64)
+        ensures { self.new ≡ self.old }
+    {
+        look_anew(&mut self.times, &self.clients, clock);
     }
 }
 

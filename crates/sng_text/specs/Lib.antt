@@ -3,6 +3,7 @@ pub mod LevelsLeft
 pub mod Common
 pub mod Texts
 pub mod Matching
+pub mod Kept
 pub mod ClientIds
 pub mod Ipv4
 pub mod Laws

@@ -2,6 +2,7 @@
 ghost use Rattle.std.specs.Prelude.{◌≡◌, ◌⊎◌, true, Err, Some, None, IfOk, IfErr};
 ghost use Rattle.sng_text.specs.ClientIds.{is_client_id, client_id_fault};
 
+use crate::kept::Text;
 use crate::{MAX_CLIENT_ID, TextFault, bytes};
 use std::alloc::{AllocError, Global};
 use std::marker::Model;
@@ -10,7 +11,7 @@ use std::marker::Model;
 /// see its text.
 #[derive(Debug, Drop)]
 pub struct ClientId {
-    text: Vec<u8>,
+    text: Text,
 }
 
 impl Model for ClientId {
@@ -19,9 +20,9 @@ impl Model for ClientId {
 
     ghost Value = { List ℕ };
 
-    ghost view = { λ i. i.text.items };
+    ghost view = { λ i. i.text };
 
-    ghost invariant = { λ i. is_client_id i.text.items ≡ true };
+    ghost invariant = { λ i. is_client_id i.text ≡ true };
 }
 
 impl ClientId {
@@ -35,7 +36,7 @@ impl ClientId {
         if let Some(fault) = client_id_fault(text) {
             return Err(fault);
         }
-        let text = Vec::from_slice(alloc, text).map_err(|_| TextFault::Memory)?;
+        let text = Text::of(alloc, text).map_err(|_| TextFault::Memory)?;
         Ok(ClientId { text })
     }
 
@@ -47,11 +48,11 @@ impl ClientId {
         self.text.as_slice()
     }
 
-    /// An equal client id, in memory of its own. Only memory can fail.
+    /// An equal client id. Only memory can fail, and only where the id is long.
     pub fn copy(&self) -> Result<ClientId, AllocError>
         ensures { IfOk result (λ i. i ≡ self.now) }
     {
-        let text = self.text.clone()?;
+        let text = self.text.copy()?;
         Ok(ClientId { text })
     }
 }

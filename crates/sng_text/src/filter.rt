@@ -9,6 +9,7 @@ ghost use Rattle.std.proofs.Common.{rules};
 ghost use Rattle.sng_text.specs.Levels.{levels_of};
 ghost use Rattle.sng_text.specs.Texts.{is_filter, is_name, filter_fault, is_in_place};
 
+use crate::kept::Text;
 use crate::reading::{bytes_fault, owned};
 use crate::{Levels, MAX_FILTER, Octets, RefusedText, TextFault, TopicName, bytes};
 use std::alloc::{AllocError, Global};
@@ -19,7 +20,7 @@ use std::marker::Model;
 /// `#` the last level. Contracts see its text.
 #[derive(Debug, Drop)]
 pub struct TopicFilter {
-    text: Vec<u8>,
+    text: Text,
 }
 
 impl Model for TopicFilter {
@@ -28,9 +29,9 @@ impl Model for TopicFilter {
 
     ghost Value = { List ℕ };
 
-    ghost view = { λ f. f.text.items };
+    ghost view = { λ f. f.text };
 
-    ghost invariant = { λ f. is_filter f.text.items ≡ true };
+    ghost invariant = { λ f. is_filter f.text ≡ true };
 }
 
 impl TopicFilter {
@@ -43,7 +44,7 @@ impl TopicFilter {
         Ok(TopicFilter { text })
     }
 
-    /// The filter that the octets are, in their memory, or the octets with the first of their faults.
+    /// The filter that the octets are, or the octets with the first of their faults. Takes no memory.
     pub fn of_octets(octets: Octets) -> Result<TopicFilter, RefusedText>
         ensures ok { IfOk result (λ f. (f ≡ octets) × (filter_fault octets ≡ None)) }
         ensures err { IfErr result (λ r. (filter_fault octets ≡ Some r.fault) × (r.octets ≡ octets)) }
@@ -51,7 +52,7 @@ impl TopicFilter {
         match filter_fault(octets.as_slice()) {
             Some(fault) => Err(RefusedText { fault, octets }),
             None => Ok(TopicFilter {
-                text: octets.into_vec(),
+                text: Text::of_vec(octets.into_vec()),
             }),
         }
     }
@@ -66,7 +67,7 @@ impl TopicFilter {
         if name.text().len() > MAX_FILTER {
             return Err(TextFault::TooLong);
         }
-        let text = Vec::from_slice(alloc, name.text()).map_err(|_| TextFault::Memory)?;
+        let text = Text::of(alloc, name.text()).map_err(|_| TextFault::Memory)?;
         Ok(TopicFilter { text })
     }
 
@@ -85,11 +86,11 @@ impl TopicFilter {
         bytes::is_plain(self.text())
     }
 
-    /// An equal filter, in memory of its own. Only memory can fail.
+    /// An equal filter. Only memory can fail, and only where the filter is long.
     pub fn copy(&self) -> Result<TopicFilter, AllocError>
         ensures { IfOk result (λ f. f ≡ self.now) }
     {
-        let text = self.text.clone()?;
+        let text = self.text.copy()?;
         Ok(TopicFilter { text })
     }
 }

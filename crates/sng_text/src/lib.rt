@@ -10,6 +10,7 @@ pub mod comparing;
 pub mod fault;
 pub mod filter;
 pub mod ipv4;
+pub mod kept;
 pub mod laws;
 pub mod levels;
 pub mod limits;

@@ -8,6 +8,7 @@ ghost use Rattle.std.specs.Str.{bytes_eq};
 ghost use Rattle.std.proofs.Common.{rules};
 ghost use Rattle.sng_text.specs.Texts.{is_name, name_fault};
 
+use crate::kept::Text;
 use crate::reading::{bytes_fault, owned};
 use crate::{MAX_NAME, Octets, RefusedText, TextFault, bytes};
 use std::alloc::{AllocError, Global};
@@ -17,7 +18,7 @@ use std::marker::Model;
 /// A topic name: 1 to `MAX_NAME` bytes of UTF-8 without U+0000, `+` and `#`. Contracts see its text.
 #[derive(Debug, Drop)]
 pub struct TopicName {
-    text: Vec<u8>,
+    text: Text,
 }
 
 impl Model for TopicName {
@@ -26,9 +27,9 @@ impl Model for TopicName {
 
     ghost Value = { List ℕ };
 
-    ghost view = { λ n. n.text.items };
+    ghost view = { λ n. n.text };
 
-    ghost invariant = { λ n. is_name n.text.items ≡ true };
+    ghost invariant = { λ n. is_name n.text ≡ true };
 }
 
 impl TopicName {
@@ -41,7 +42,7 @@ impl TopicName {
         Ok(TopicName { text })
     }
 
-    /// The name that the octets are, in their memory, or the octets with the first of their faults.
+    /// The name that the octets are, or the octets with the first of their faults. Takes no memory.
     pub fn of_octets(octets: Octets) -> Result<TopicName, RefusedText>
         ensures ok { IfOk result (λ n. (n ≡ octets) × (name_fault octets ≡ None)) }
         ensures err { IfErr result (λ r. (name_fault octets ≡ Some r.fault) × (r.octets ≡ octets)) }
@@ -49,7 +50,7 @@ impl TopicName {
         match name_fault(octets.as_slice()) {
             Some(fault) => Err(RefusedText { fault, octets }),
             None => Ok(TopicName {
-                text: octets.into_vec(),
+                text: Text::of_vec(octets.into_vec()),
             }),
         }
     }
@@ -59,7 +60,9 @@ impl TopicName {
         requires { is_name text.items ≡ true }
         ensures { result ≡ text.items }
     {
-        TopicName { text }
+        TopicName {
+            text: Text::of_vec(text),
+        }
     }
 
     /// The name's bytes.
@@ -70,11 +73,11 @@ impl TopicName {
         self.text.as_slice()
     }
 
-    /// An equal name, in memory of its own. Only memory can fail.
+    /// An equal name. Only memory can fail, and only where the name is long.
     pub fn copy(&self) -> Result<TopicName, AllocError>
         ensures { IfOk result (λ n. n ≡ self.now) }
     {
-        let text = self.text.clone()?;
+        let text = self.text.copy()?;
         Ok(TopicName { text })
     }
 }

@@ -1,6 +1,6 @@
 //! Client ids by their bytes: equal where these are, in their order, and hashed by them, so that client ids
 //! are keys of maps.
-ghost use Rattle.std.specs.Prelude.{Some, nat_eq, refl};
+ghost use Rattle.std.specs.Prelude.{◌≡◌, Some, nat_eq, refl};
 ghost use Rattle.std.proofs.Common.{rules};
 ghost use Rattle.std.specs.Cmp.Rules.{hashing};
 ghost use Rattle.std.specs.Hash as fed;
@@ -47,7 +47,26 @@ impl Ord for ClientId {
     ghost matches_eq = { λ i j. texts_ties i j };
 
     fn cmp(&self, other: &ClientId) -> Ordering {
-        self.text().cmp(other.text())
+        ordered(self.text(), other.text())
+    }
+}
+
+/// The first octet that is not the same decides, and else the lengths do. Ids are short, so octet by octet is
+/// faster than in groups.
+fn ordered(one: &[u8], two: &[u8]) -> Ordering
+    ensures { result ≡ slice_cmp nat_cmp one.now two.now }
+{
+    match (one.split_first(), two.split_first()) {
+        (None, None) => Ordering::Equal,
+        (None, Some(_)) => Ordering::Less,
+        (Some(_), None) => Ordering::Greater,
+        (Some((first, one)), Some((second, two))) => {
+            if *first == *second {
+                ordered(one, two)
+            } else {
+                first.cmp(second)
+            }
+        }
     }
 }
 

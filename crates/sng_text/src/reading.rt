@@ -2,18 +2,19 @@
 ghost use Rattle.std.specs.Prelude.{◌≡◌, ◌⊎◌, Bool, Some, None, IfOk, IfErr, MatchOption, if◌then◌else◌};
 ghost use Rattle.sng_text.specs.Texts.{text_fault};
 
+use crate::kept::Text;
 use crate::{TextFault, bytes};
 use std::alloc::Global;
 
-/// The text in memory of its own, or its fault where it has one.
-pub fn owned(alloc: Global, text: &[u8], fault: Option<TextFault>) -> Result<Vec<u8>, TextFault>
-    ensures ok { IfOk result (λ bytes. (bytes.items ≡ text.now) × (fault ≡ None)) }
+/// The text as a value of its own, or its fault where it has one.
+pub fn owned(alloc: Global, text: &[u8], fault: Option<TextFault>) -> Result<Text, TextFault>
+    ensures ok { IfOk result (λ t. (t ≡ text.now) × (fault ≡ None)) }
     ensures err { IfErr result (λ f. (f ≡ TextFault.Memory) ⊎ (fault ≡ Some f)) }
 {
     if let Some(fault) = fault {
         return Err(fault);
     }
-    Vec::from_slice(alloc, text).map_err(|_| TextFault::Memory)
+    Text::of(alloc, text).map_err(|_| TextFault::Memory)
 }
 
 /// The first fault of a name or a filter of at most so many bytes, that of its wildcards aside.

@@ -101,7 +101,7 @@ fn announced_again(
     let Some(front) = sessions.queue(place).at(0) else {
         return Ok(Retried::Nothing);
     };
-    let outcome = receive(policy, sessions.id(place), front.name())?;
+    let outcome = receive(alloc, policy, sessions.id(place), front.name())?;
     let open = Announced { sent, front };
     announced_judged(alloc, policy, sessions, place, open, outcome, outs)
 }
@@ -154,7 +154,7 @@ fn handed_again(
     ensures comes { IfOk result (λ retried. retried
         ≡ handed_again_comes policy.now (client_at sessions.now place) open.entry.message.now) }
 {
-    let outcome = receive(policy, sessions.id(place), open.message.name())?;
+    let outcome = receive(alloc, policy, sessions.id(place), open.message.name())?;
     handed_judged(alloc, policy, sessions, place, open, outcome, outs)
 }
 

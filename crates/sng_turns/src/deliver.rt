@@ -203,7 +203,7 @@ fn turn(
         number: sessions.number(place),
     };
     let message = arrival.message;
-    let outcome = receive(policy, to.id, &message.name)?;
+    let outcome = receive(alloc, policy, to.id, &message.name)?;
     let known = known_id(message.fixed, to.ids, None, &message.name);
     let mail = Mail {
         name: &message.name,

@@ -78,7 +78,7 @@ fn turn(
         message.now) }
 {
     let name = message.name();
-    let outcome = receive(policy, to.id, name)?;
+    let outcome = receive(alloc, policy, to.id, name)?;
     let known = known_id(fixed_id(policy, name), to.ids, to.confirming, name);
     let mail = Mail {
         name,

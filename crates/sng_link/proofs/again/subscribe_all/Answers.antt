@@ -32,6 +32,20 @@ loop-filter-preserved-in_ok-leave-2 c = record {
       (ap (λ (l : List (List _)). map Subscribe l) c.in-Some.ensures.steps.0) c.in_ok-leave.ensures.left;
 }
 
+pub loop-filter-preserved-in_ok-leave-3 : goal.loop-filter-preserved-in_ok-leave-3
+loop-filter-preserved-in_ok-leave-3 c = record {
+  room =
+      ap (λ (w : WantedRoom). w.room) c.in_ok-leave.ensures.left.wanted_is ∙ c.loop-filter.invariant.room;
+  so_far = λ from first link stands.
+      let before = c.loop-filter.invariant.so_far from first link stands in
+      subscribed_step c.args.policy.now from first link (map Subscribe c.args.filters.items)
+      c.in-Some.filter (map Subscribe c.next.new.self.rest.items)
+      (map Subscribe c.loop-filter.filter-iterator.rest.items) c.args.outs c.loop-filter.outs
+      c.leave.new.outs before.0 c.loop-filter.log.items c.leave.new.log.items c.loop-filter.ids
+      c.leave.new.ids c.loop-filter.wanted c.leave.new.wanted before.1 before.2
+      (ap (λ (l : List (List _)). map Subscribe l) c.in-Some.ensures.steps.0) c.in_ok-leave.ensures.left;
+}
+
 pub returns-in_err-pair-clause-logged : goal.returns-in_err-pair-clause-logged
 returns-in_err-pair-clause-logged c from first link stands =
     let before = c.loop-filter.invariant.so_far from first link stands in before.2.stands.logged

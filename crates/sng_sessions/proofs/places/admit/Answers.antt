@@ -1,8 +1,10 @@
 -- Once the address is clear, the client settles there.
-use Rattle.std.proofs.Common.{◌≡◌, true, sym, ap, ◌∙◌, subst}
+use Rattle.std.proofs.Common.{◌≡◌, true, length, sym, ap, ◌∙◌, subst}
 use Rattle.std.specs.Str.{bytes_eq}
+use Rattle.sng_sessions.specs.Dues.{WaitsBeside}
 use Rattle.sng_sessions.specs.Places.{settled, stands_at, holds_at}
 use Rattle.sng_sessions.proofs.Moves.{settled-entered, vacated-alone, session_by}
+use Rattle.sng_sessions.proofs.DueLemmas.{entered-new}
 use Rattle.sng_sessions.proofs.places.admit.Goals as goal
 
 pub settle-requires-clause-alone : goal.settle-requires-clause-alone
@@ -21,3 +23,9 @@ returns-clause-clients c =
     c.args.tables.filters c.args.tables.wills c.open.new.wills c.new.result c.requires.none c.phase_opened.ensures
     c.open.ensures c.new.ensures _
     c.requires.new
+
+pub returns-clause-beside : goal.returns-clause-beside
+returns-clause-beside c =
+    λ times waits. subst (WaitsBeside (length c.args.clients.now.entries) times)
+    (sym (returns-clause-clients c))
+    (entered-new times c.args.clock c.args.from c.args.connect c.args.clients.now.entries c.requires.new waits)

@@ -1,11 +1,13 @@
 -- Once the address is clear, the client returns there.
 use Rattle.std.proofs.Common.{◌≡◌, true, sym, ap, ◌∙◌, subst}
 use Rattle.sng_history.specs.Clients.{let_in}
+use Rattle.sng_sessions.specs.Dues.{WaitsBeside}
 use Rattle.sng_sessions.specs.Kept.{Keeps}
 use Rattle.sng_sessions.specs.Places.{clients_of, stands_at, is_place, moved_at, vacated}
 use Rattle.sng_sessions.proofs.KeptLemmas.{keeps-same, filters-mapped}
 use Rattle.sng_sessions.proofs.Looks.{distinct}
 use Rattle.sng_sessions.proofs.Moves.{named-found, vacated-filters, vacated-sole, returned-entered}
+use Rattle.sng_sessions.proofs.DueLemmas.{entered-known}
 use Rattle.sng_sessions.proofs.places.readmit.Goals as goal
 
 pub return_at-requires-clause-kept : goal.return_at-requires-clause-kept
@@ -35,3 +37,13 @@ returns-clause-clients c =
     c.return_at.ensures.clients
     ∙ ap (moved_at c.args.place (let_in c.args.clock c.args.from c.args.connect.now)) c.vacate.ensures.clients
     ∙ returned-entered c.args.clock c.args.from c.args.connect.now (clients_of entries) c.args.place only
+
+pub returns-clause-beside : goal.returns-clause-beside
+returns-clause-beside c =
+    let entries = c.args.clients.now.entries in
+    let only =
+    named-found c.args.connect.now.client_id entries c.args.place
+    (distinct entries c.len-count.ensures.unique) c.requires.place in
+    λ times waits. subst (WaitsBeside c.args.place times) (sym (returns-clause-clients c))
+    (entered-known times c.args.clock c.args.from c.args.connect.now (clients_of entries) c.args.place only
+    waits)

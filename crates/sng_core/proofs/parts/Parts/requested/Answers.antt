@@ -1,8 +1,8 @@
 -- A PUBLISH is carried on, at each QoS.
-use Rattle.std.proofs.Common.{◌≡◌, IfOk, subst, sym}
-use Rattle.sng_core.specs.Requesting.{request_outs}
+use Rattle.std.proofs.Common.{◌≡◌, IfOk, OnOk, Some, subst, sym}
+use Rattle.sng_core.specs.Requesting.{request_next, request_outs}
 use Rattle.sng_core.specs.Forms.{client_at, carried_outs}
-use Rattle.sng_core.specs.Receiving.{once_outs}
+use Rattle.sng_core.specs.Receiving.{once_next, once_outs}
 use Rattle.sng_core.proofs.parts.Parts.requested.Goals as goal
 
 pub returns-in-Publish-clause-outs : goal.returns-in-Publish-clause-outs
@@ -22,3 +22,12 @@ returns-in-PublishOnce-clause-outs c =
     (sym c.in-PublishOnce.is)
     (subst (λ s. IfOk c.receive.result (λ outs. outs ≡ once_outs s p (client_at s.clients place)))
     c.self.view_is c.receive.ensures.outs)
+
+pub returns-in-PublishOnce-clause-next : goal.returns-in-PublishOnce-clause-next
+returns-in-PublishOnce-clause-next c =
+    let place = c.args.place in
+    let p = c.in-PublishOnce.publish in
+    subst (λ request. OnOk c.receive.result (c.receive.new.self ≡ request_next c.args.self.now place request))
+    (sym c.in-PublishOnce.is)
+    (subst (λ s. OnOk c.receive.result (c.receive.new.self ≡ once_next s p (Some place)))
+    c.self.view_is c.receive.ensures.next)

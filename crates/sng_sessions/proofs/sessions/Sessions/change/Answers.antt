@@ -6,6 +6,7 @@ use Rattle.sng_sessions.specs.Sleeping.{changed}
 use Rattle.sng_sessions.proofs.KeptLemmas.{keeps-kept}
 use Rattle.sng_sessions.proofs.Moves.{holds_at-kept}
 use Rattle.sng_sessions.proofs.SleepLemmas.{changed-here, changed-filters}
+use Rattle.sng_sessions.proofs.DueLemmas.{waits-moved}
 use Rattle.sng_sessions.proofs.sessions.Sessions.change.Goals as goal
 
 pub invariant_of-self : goal.invariant_of-self
@@ -14,6 +15,14 @@ invariant_of-self c = (
       ∙ sym (ap (λ xs. holds_at (λ x. is_here x from) xs place) c.change_at.ensures
       ∙ holds_at-kept (λ x. is_here x from) (changed c.args.clock c.args.change)
       (changed-here c.args.clock c.args.change from) _ c.args.place place),
-  keeps-kept c.self.inside.standing (changed c.args.clock c.args.change)
-      (changed-filters c.args.clock c.args.change) _ _ c.args.place c.change_at.ensures c.self.invariant.1,
+  (
+    keeps-kept c.self.inside.standing (changed c.args.clock c.args.change)
+        (changed-filters c.args.clock c.args.change) _ _ c.args.place c.change_at.ensures c.self.invariant.1.0,
+    c.note_due.ensures,
+  ),
 )
+
+pub note_due-requires : goal.note_due-requires
+note_due-requires c =
+    waits-moved c.self.inside.times.items (changed c.args.clock c.args.change) _ _ c.args.place
+    c.change_at.ensures c.self.invariant.1.1

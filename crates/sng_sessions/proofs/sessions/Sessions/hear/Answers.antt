@@ -5,6 +5,7 @@ use Rattle.sng_history.specs.Entering.{heard_at}
 use Rattle.sng_sessions.specs.Places.{holds_at}
 use Rattle.sng_sessions.proofs.KeptLemmas.{keeps-kept}
 use Rattle.sng_sessions.proofs.Moves.{holds_at-kept}
+use Rattle.sng_sessions.proofs.DueLemmas.{waits-moved}
 use Rattle.sng_sessions.proofs.sessions.Sessions.hear.Goals as goal
 
 pub invariant_of-self : goal.invariant_of-self
@@ -12,6 +13,14 @@ invariant_of-self c = (
   λ from place. c.self.invariant.0 from place
       ∙ sym (ap (λ xs. holds_at (λ x. is_here x from) xs place) c.hear_at.ensures
       ∙ holds_at-kept (λ x. is_here x from) (heard_at c.args.clock) (λ x. refl) _ c.args.place place),
-  keeps-kept c.self.inside.standing (heard_at c.args.clock)
-      (λ x. refl) _ _ c.args.place c.hear_at.ensures c.self.invariant.1,
+  (
+    keeps-kept c.self.inside.standing (heard_at c.args.clock)
+        (λ x. refl) _ _ c.args.place c.hear_at.ensures c.self.invariant.1.0,
+    c.note_due.ensures,
+  ),
 )
+
+pub note_due-requires : goal.note_due-requires
+note_due-requires c =
+    waits-moved c.self.inside.times.items (heard_at c.args.clock) _ _ c.args.place
+    c.hear_at.ensures c.self.invariant.1.1

@@ -8,5 +8,5 @@ use Rattle.sng_sessions.proofs.sessions.Sessions.holders.Goals as goal
 pub returns : goal.returns
 returns c =
     IfOk-weaker c.holders.result _ _
-    (λ list are. are-holders c.self.inside.standing _ c.args.name.now list.items c.self.invariant.1 are
+    (λ list are. are-holders c.self.inside.standing _ c.args.name.now list.items c.self.invariant.1.0 are
     ∙ ap (holders_from 0 c.args.name.now) c.self.view_is) c.holders.ensures

@@ -8,5 +8,5 @@ use Rattle.sng_sessions.proofs.sessions.Sessions.holding.Goals as goal
 pub returns : goal.returns
 returns c =
     IfOk-weaker c.clients.result _ _
-    (λ list are. are-places c.self.inside.standing _ c.args.filter.now list.items c.self.invariant.1 are
+    (λ list are. are-places c.self.inside.standing _ c.args.filter.now list.items c.self.invariant.1.0 are
     ∙ ap (places_from 0 c.args.filter.now) c.self.view_is) c.clients.ensures

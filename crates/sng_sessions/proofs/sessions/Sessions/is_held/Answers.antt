@@ -7,4 +7,4 @@ use Rattle.sng_sessions.proofs.sessions.Sessions.is_held.Goals as goal
 pub returns : goal.returns
 returns c =
     subst (λ xs. c.is_held.result ≡ is_held xs c.args.filter.now) c.self.view_is
-    (held-by c.self.inside.standing _ c.args.filter.now c.is_held.result c.self.invariant.1 c.is_held.ensures)
+    (held-by c.self.inside.standing _ c.args.filter.now c.is_held.result c.self.invariant.1.0 c.is_held.ensures)

@@ -9,4 +9,4 @@ returns c =
     subst (λ xs. c.is_held_by_others.result ≡ (is_held (take c.args.place xs) c.args.filter.now
     || is_held (drop (c.args.place + 1) xs) c.args.filter.now)) c.self.view_is
     (held-beside c.self.inside.standing _ c.args.filter.now c.args.place c.is_held_by_others.result
-    c.self.invariant.1 c.is_held_by_others.ensures)
+    c.self.invariant.1.0 c.is_held_by_others.ensures)

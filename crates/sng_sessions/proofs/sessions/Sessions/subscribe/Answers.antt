@@ -10,6 +10,7 @@ use Rattle.sng_sessions.specs.Places.{clients_of, holds_at, moved_at}
 use Rattle.sng_sessions.proofs.KeptLemmas.{keeps-kept}
 use Rattle.sng_sessions.proofs.MovedLists.{ids-moved, moved_at-twice}
 use Rattle.sng_sessions.proofs.Moves.{holds_at-kept}
+use Rattle.sng_sessions.proofs.DueLemmas.{beside-moved, waits-moved}
 use Rattle.sng_sessions.proofs.sessions.Sessions.subscribe.Goals as goal
 
 pub stand_at-requires-clause-fits : goal.stand_at-requires-clause-fits
@@ -35,9 +36,19 @@ invariant_of-self-2 c = (
       ∙ ap (λ xs. holds_at (λ x. is_here x from) xs place) c.in_ok-stand_at.ensures.ok
       ∙ holds_at-kept (λ x. is_here x from) (standing_at c.args.filter c.args.qos)
       (λ x. refl) _ c.args.place place),
-  keeps-kept c.stand_at.new.standing (told_at c.args.clock c.args.name Allowed) (λ x. refl) _ _ c.args.place
-      c.tell_if.ensures c.stand_at.ensures.kept,
+  (
+    keeps-kept c.stand_at.new.standing (told_at c.args.clock c.args.name Allowed) (λ x. refl) _ _ c.args.place
+        c.tell_if.ensures c.stand_at.ensures.kept,
+    c.note_due.ensures,
+  ),
 )
+
+pub note_due-requires : goal.note_due-requires
+note_due-requires c =
+    beside-moved c.self.inside.times.items (told_at c.args.clock c.args.name Allowed) _ _ c.args.place
+    c.tell_if.ensures
+    (waits-moved c.self.inside.times.items (standing_at c.args.filter c.args.qos) _ _ c.args.place
+    c.in_ok-stand_at.ensures.ok c.self.invariant.1.1)
 
 pub returns-clause-ok : goal.returns-clause-ok
 returns-clause-ok c =
