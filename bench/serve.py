@@ -4,10 +4,11 @@
 Measures `sng serve` on loopback (SNG is the build that `rt run` leaves in crates/sng/out/sng, where none is
 given), beside plain programs that decide and keep nothing (serve.c, built on the spot by `cc -O2`): a relay of
 UDP to TCP, and one that sends each message of the broker to each device. Prints how many PUBLISHes a second
-reach the broker at QoS -1 and at QoS 1, with 1, 2 and 4 workers; how many of a burst of 10,000 reach it; how
-many messages of the broker a second reach 1, 10 and 100 devices; the median and the 99th percentile of a round
-trip in microseconds; the memory of a row; and what an idle gateway uses of a processor. Each figure is of
-payloads of 32 bytes, that of the run in the middle of several; plain program and gateway take turns."""
+reach the broker at QoS -1 and at QoS 1, with 1, 2 and 4 workers, and at QoS 1 also by a policy that lets 16,000
+be in flight where 128 may by default; how many of a burst of 10,000 reach it; how many messages of the broker a
+second reach 1, 10 and 100 devices; the median and the 99th percentile of a round trip in microseconds; the
+memory of a row; and what an idle gateway uses of a processor. Each figure is of payloads of 32 bytes, that of
+the run in the middle of several; plain program and gateway take turns."""
 import json
 import os
 import re
@@ -27,6 +28,9 @@ IDLE_SECONDS = 20
 MINUS, ONE, TRIPS, BURST = '100000', '30000', '10000', '10000'
 POLICY = {'version': 1, 'sources': {HOST: [['ab', ['pub']]]},
           'clients': dict({'s1': [['t/1', ['pub']]]}, **{'d%03d' % k: [['ab', ['sub']]] for k in range(100)})}
+
+# The same, by which more publishes may be in flight than the driver sends at once
+WIDE = dict(POLICY, version=4, limits={'in_flight': 16_000, 'waiting': 65_000})
 
 
 def free_port(kind):
@@ -155,12 +159,16 @@ def main():
     with tempfile.TemporaryDirectory() as room:
         tool, policy = os.path.join(room, 'serve'), os.path.join(room, 'policy.json')
         subprocess.run(['cc', '-O2', '-o', tool, os.path.join(HERE, 'serve.c'), '-lpthread'], check=True)
-        with open(policy, 'w') as file:
-            json.dump(POLICY, file)
-        for title, words in (('QoS -1', ['minus', MINUS]), ('QoS 1, 32 on the way', ['one', ONE, '32']),
-                             ('QoS 1, one at a time', ['one', TRIPS, '1'])):
+        wide = os.path.join(room, 'wide.json')
+        for path, of in ((policy, POLICY), (wide, WIDE)):
+            with open(path, 'w') as file:
+                json.dump(of, file)
+        for title, words, by in (('QoS -1', ['minus', MINUS], policy),
+                                 ('QoS 1, 32 on the way', ['one', ONE, '32'], policy),
+                                 ('QoS 1, 32 of 16,000', ['one', ONE, '32'], wide),
+                                 ('QoS 1, one at a time', ['one', TRIPS, '1'], policy)):
             scale, *others = middles([partial(by_plain, tool, 'relay', words)] + [
-                partial(by_gateway, tool, sng, policy, workers, words) for workers in (1, 2, 4)])
+                partial(by_gateway, tool, sng, by, workers, words) for workers in (1, 2, 4)])
             show(title + ': relay', scale)
             for workers, came in zip((1, 2, 4), others):
                 show('%s: sng, workers %d' % (title, workers), came, scale)
