@@ -1,6 +1,6 @@
 //! Another policy comes into force: each subscription that it does not allow ends (MQTT-SN 1.2, 6.9). What
 //! ends is planned first, with all memory, and what changes cannot fail.
-ghost use Rattle.std.specs.Prelude.{◌≡◌, ◌≤◌, ◌<◌, ◌+◌, ◌*◌, ◌++◌, [], ℕ, suc, length, IfOk, OnOk, OnErr};
+ghost use Rattle.std.specs.Prelude.{◌≡◌, ◌≤◌, ◌<◌, ◌+◌, ◌*◌, ◌++◌, [], ℕ, suc, length, IfOk, OnOk, OnErr, Some};
 ghost use Rattle.sng_history.specs.Good.{Each, AllCovered};
 ghost use Rattle.sng_history.specs.Verdicts.{coverage};
 ghost use Rattle.sng_link.specs.Rooms.{HasPlaces};
@@ -8,7 +8,7 @@ ghost use Rattle.sng_sessions.specs.Standing.{client_at};
 ghost use Rattle.sng_endings.specs.Replacing.{moved, ended_next, ended_outs, all_next, all_outs, ending_list};
 ghost use Rattle.sng_endings.specs.Replacing.{ending_of, endings_by, endings_from, let_go, untold_of};
 
-use sng_book::{Decision, NotePair, Out, Outcome, OutsPair, ReservedOuts};
+use sng_book::{Decision, Denial, NotePair, Out, Outcome, OutsPair, ReservedOuts};
 use sng_grants::Limits;
 use sng_history::coverage;
 use sng_link::Link;
@@ -236,17 +236,35 @@ fn planned(
 {
     match coverage(alloc, policy, client, filter)? {
         Outcome::Allowed => Ok(None),
-        Outcome::Denied(rule) => {
-            let denied = Outcome::Denied(rule);
-            let note = NotePair::of(Decision::End(client.copy()?, filter.copy()?, denied))?;
-            let filter = filter.copy()?;
-            Ok(Some(SubscriptionEnd {
-                place,
-                filter,
-                note,
-            }))
-        }
+        Outcome::Denied(rule) => Ok(Some(ending(place, client, filter, rule)?)),
     }
+}
+
+/// The ending of the filter by this rule. An `Err` is a failed allocation.
+fn ending(
+    place: usize,
+    client: &ClientId,
+    filter: &TopicFilter,
+    rule: Denial,
+) -> Result<SubscriptionEnd, AllocError>
+    ensures { IfOk result (λ ending. ending_list (Some ending)
+        ≡ ending_of place client.now filter.now (Outcome.Denied rule)) }
+{
+    let note = end_note(client, filter, rule)?;
+    let filter = filter.copy()?;
+    Ok(SubscriptionEnd {
+        place,
+        filter,
+        note,
+    })
+}
+
+/// The note of its end, for both owners. An `Err` is a failed allocation.
+fn end_note(client: &ClientId, filter: &TopicFilter, rule: Denial) -> Result<NotePair, AllocError>
+    ensures { IfOk result (λ note. note ≡ Decision.End client.now filter.now (Outcome.Denied rule)) }
+{
+    let denied = Outcome::Denied(rule);
+    NotePair::of(Decision::End(client.copy()?, filter.copy()?, denied))
 }
 
 /// The ending, where there is one, comes behind the others. An `Err` is a failed allocation.
