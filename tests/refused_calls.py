@@ -68,16 +68,16 @@ NOTHING, WITHSTOOD = 'nothing', 'withstood'
 # Memory of the program itself
 OWN = ('Vec', 'TopicFilter::read')
 # What takes no memory: `gather`, giving rows out of a ledger and its end, steps without outs that keep
-# nothing new, an inclusion that holds, and decoding what has no text
+# nothing new, an inclusion that holds, and decoding what has no text or a short id
 FREE = {
     'gather', 'Ledger::give_out', 'Ledger::close', 'cover of what is included',
     *('Core::step of ' + kind for kind in (
         'Down', 'PINGRESP of the broker', 'PUBACK of the broker', 'Replace', 'SUBACK of the broker',
         'Take of nothing', 'UNSUBACK of the broker')),
     *('sng_frames::decode of ' + kind for kind in (
-        'CONNACK', 'DISCONNECT', 'DISCONNECT with a Duration', 'PINGREQ', 'PINGRESP', 'PUBACK', 'PUBCOMP',
-        'PUBREC', 'PUBREL', 'REGACK', 'SUBACK', 'UNSUBACK', 'WILLMSGREQ', 'WILLMSGRESP', 'WILLTOPICREQ',
-        'WILLTOPICRESP')),
+        'CONNACK', 'CONNECT, clean', 'DISCONNECT', 'DISCONNECT with a Duration', 'PINGREQ', 'PINGREQ with an id',
+        'PINGRESP', 'PUBACK', 'PUBCOMP', 'PUBREC', 'PUBREL', 'REGACK', 'SUBACK', 'UNSUBACK', 'WILLMSGREQ',
+        'WILLMSGRESP', 'WILLTOPICREQ', 'WILLTOPICRESP')),
 }
 
 # What the ledger is tried at: a few rows, cut into three volumes
