@@ -2,9 +2,7 @@
 """desk.py [BENCH]
 
 Measures what a row of the audit book takes and what an act costs, beside the bare step. BENCH is the proved
-program of bench/desk.rt.in; where none is given, it is laid as a crate beside the crates of this repository,
-proved and built by `rt run`, which takes minutes (and long without `rt all check` before), and taken away
-again.
+program of bench/desk.rt.in; where none is given, laid.py has it made.
 
 A hundred publishes of a source at QoS -1, each with a payload of 32 octets, and a take make 101 rows: each
 publish one with a note, the take one with a note and a packet for each. Prints what a row costs in processor
@@ -14,44 +12,20 @@ wait, and what such a desk's rows cost without cuts and with one each 4,096 rows
 and for each publish that is allowed, with its share of the take. Each time is the best of several runs that
 take turns. Fails where a job lets out another number of outs."""
 import os
-import shutil
 import subprocess
 import sys
 import time
 
-HERE = os.path.dirname(os.path.abspath(__file__))
-ROOT = os.path.dirname(HERE)
+import laid
+
 NAME = 'desk_bench'
+FILES = {'src/main.rt': 'desk.rt', 'proofs/fn/four/scope/Answers.antt': 'desk.antt'}
 LIBRARIES = 'sng_text mqtt_frames sng_grants sng_book sng_core sng_desk'
 TIMES = 404_000
 RUNS = 5
 CUTS = 200
 HELD = 256 * (32 + 20)
 JOBS = [('bare', 'the core alone'), ('alone', 'a desk, one thread'), ('four', 'a desk, four threads')]
-
-
-def built():
-    """The program, proved and built in the repository's own crates; the caller removes what was laid."""
-    crate = os.path.join(ROOT, 'crates', NAME)
-    os.makedirs(os.path.join(crate, 'src'))
-    shutil.copy(os.path.join(HERE, 'desk.rt.in'), os.path.join(crate, 'src', 'main.rt'))
-    answers = os.path.join(crate, 'proofs', 'fn', 'four', 'scope')
-    os.makedirs(answers)
-    shutil.copy(os.path.join(HERE, 'desk.antt.in'), os.path.join(answers, 'Answers.antt'))
-    with open(os.path.join(ROOT, 'crates.txt'), 'a') as file:
-        file.write('%s: %s\n' % (NAME, LIBRARIES))
-    subprocess.run(['rt', 'run'], cwd=crate, check=True, stdout=subprocess.DEVNULL)
-    return os.path.join(crate, 'out', NAME)
-
-
-def removed():
-    """Takes away what `built` laid."""
-    shutil.rmtree(os.path.join(ROOT, 'crates', NAME), ignore_errors=True)
-    path = os.path.join(ROOT, 'crates.txt')
-    with open(path) as file:
-        lines = [line for line in file if not line.startswith(NAME + ':')]
-    with open(path, 'w') as file:
-        file.writelines(lines)
 
 
 def run(bench, job, times):
@@ -106,10 +80,8 @@ def main():
     if len(sys.argv) > 1:
         measure(os.path.abspath(sys.argv[1]))
         return
-    try:
-        measure(built())
-    finally:
-        removed()
+    with laid.program(NAME, LIBRARIES, FILES) as bench:
+        measure(bench)
 
 
 if __name__ == '__main__':

@@ -270,6 +270,31 @@ static void burst(long count) {
     fflush(stdout);
 }
 
+/* Publishes that were refused, since too much is on the way to the broker: each is sent again after a while, as a
+ * device would, and nothing else waits for that. */
+enum { REFUSED = 65536 };
+static const double PAUSE = 100e-6;
+static unsigned refused[REFUSED];
+static double due[REFUSED];
+static unsigned refused_first, refused_last;
+
+static void ask(int s, unsigned char *frame, unsigned id) {
+    frame[5] = id >> 8;
+    frame[6] = id;
+    if (send(s, frame, frame[0], 0) < 0) stop("send");
+}
+
+/* Sends again what is due. Whether an answer may be read now: else the next one is due first. */
+static int sends_again(int s, unsigned char *frame) {
+    for (; refused_first != refused_last && due[refused_first % REFUSED] <= now(); refused_first++)
+        ask(s, frame, refused[refused_first % REFUSED]);
+    if (refused_first == refused_last) return 1;
+    double left = due[refused_first % REFUSED] - now();
+    struct timespec t = {0, left > 0 ? left * 1e9 : 0};
+    struct pollfd answer = {s, POLLIN, 0};
+    return ppoll(&answer, 1, &t, NULL) > 0;
+}
+
 static void one(long count, long window) {
     int s = datagrams(0, udp_port());
     unsigned char got[2048], frame[39] = {39, 0x0c, 0x20, 0, 1};
@@ -283,22 +308,19 @@ static void one(long count, long window) {
     while (taken < count) {
         while (sent - taken < window && sent < count) {
             unsigned id = sent++ % 65535 + 1;
-            frame[5] = id >> 8;
-            frame[6] = id;
             begun[id] = now();
-            if (send(s, frame, sizeof frame, 0) < 0) stop("send");
+            ask(s, frame, id);
         }
+        if (!sends_again(s, frame)) continue;
         ssize_t k = recv(s, got, sizeof got, 0);
         if (k != 7 || got[1] != 0x0d) stop("no PUBACK");
+        unsigned id = got[4] << 8 | got[5];
         if (got[6]) {
-            /* Too much is on the way to the broker: the same again, as a device would. */
-            usleep(100);
-            frame[5] = got[4];
-            frame[6] = got[5];
-            if (send(s, frame, sizeof frame, 0) < 0) stop("send");
+            refused[refused_last % REFUSED] = id;
+            due[refused_last++ % REFUSED] = now() + PAUSE;
             continue;
         }
-        trips[taken++] = now() - begun[got[4] << 8 | got[5]];
+        trips[taken++] = now() - begun[id];
     }
     told(count, now() - start, trips, count);
 }

@@ -1,18 +1,21 @@
 #!/usr/bin/env python3
 """speed.py [BENCH]
 
-Runs each job of the proved program BENCH (if none is given, the build that `rt run` leaves in
-crates/sng_bench/out/sng_bench) and prints what it costs: answers on inclusion and of policies, a policy's
-text read (beside Python's json.loads of the same text), frames read and written, and a stream taken in
-pieces. Each figure is processor time, the best of several runs. Fails where a job fails."""
+Runs each job of BENCH, the proved program of bench/jobs (where none is given, laid.py has it made), and prints
+what it costs: answers on inclusion and of policies, a policy's text read (beside Python's json.loads of the
+same text), frames read and written, and a stream taken in pieces. Each figure is processor time, the best of
+several runs. Fails where a job fails."""
 import json
-import os
 import resource
 import subprocess
 import sys
 import time
 
-HERE = os.path.dirname(os.path.abspath(__file__))
+import laid
+
+NAME = 'jobs_bench'
+FILES = {'src/%s.rt' % name: 'jobs/%s.rt' % name for name in ('main', 'jobs', 'holding', 'judging', 'policies')}
+LIBRARIES = 'sng_text sng_standing sng_cover sng_grants sng_scope sng_policy sng_frames mqtt_frames'
 JOBS = [
     ('cover-deep', 20_000, 'a filter of 100 levels against 64 of 100 levels'),
     ('cover-all', 20_000, '`#` against 64 of 100 levels'),
@@ -89,8 +92,7 @@ def json_seconds(text):
     return time.process_time() - start
 
 
-def main(arguments):
-    bench = arguments[0] if arguments else os.path.join(HERE, '..', 'crates', 'sng_bench', 'out', 'sng_bench')
+def measure(bench):
     for job, times, what in JOBS:
         took = work_seconds(bench, job, times)
         print('%-50s %8.0f ns each, %10.0f a second' % (what, took / times * 1e9, times / took))
@@ -105,4 +107,13 @@ def main(arguments):
         print('%-50s %8.1f megabytes a second' % (what, size * times / took / 1e6))
 
 
-main(sys.argv[1:])
+def main(arguments):
+    if arguments:
+        measure(arguments[0])
+        return
+    with laid.program(NAME, LIBRARIES, FILES) as bench:
+        measure(bench)
+
+
+if __name__ == '__main__':
+    main(sys.argv[1:])

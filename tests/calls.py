@@ -19,7 +19,8 @@ HERE = os.path.dirname(os.path.abspath(__file__))
 ROOT = os.path.dirname(HERE)
 # Not `.rt`: `rt ci` refuses a file of that ending outside the crates.
 ENDING = '.rt.in'
-SECONDS = '60'
+# A limit for what hangs: the tests run beside the proofs
+SECONDS = '600'
 
 
 def files(names):

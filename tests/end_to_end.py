@@ -48,10 +48,10 @@ MAX_LINE = 256 * 1024 * 1024
 MEMORY = 512 * 1024 * 1024
 SHORT = 16 * 1024 * 1024
 # The texts of the help that have a number, with the constants that they tell of, and where these stand
-HELP_SOURCES = sorted(glob.glob(os.path.join(ROOT, 'crates/sng/src/command/*.rt')))
+HELP_SOURCES = sorted(glob.glob(os.path.join(ROOT, 'crates/sng_command/src/command/*.rt')))
 HELP_CONSTANTS = [os.path.join(ROOT, 'crates/%s.rt' % name)
                   for name in ('sng_config/src/limits', 'sng_operator/src/ask', 'sng_bookkeeper/src/limits',
-                               'sng_serve/src/asking')]
+                               'sng_metrics/src/response')]
 HELP_TEXTS = (
     'How many workers read datagrams, from 1 to {MAX_WORKERS}',
     'How many tries to connect may fail in a row: {USUAL_TRIES} where it is left out; 0 is no end',

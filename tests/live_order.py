@@ -6,7 +6,9 @@ from live_parts import Failure, until, wanted
 
 PAIRS = int(os.environ.get('SNG_LIVE_PAIRS', '2000'))
 CONNECTS = max(100, PAIRS // 40)
-LAMP = {'version': 1, 'clients': {'s1': [['t/#', ['pub', 'sub']]]}}
+# As many publishes may wait as may be let wait: on a busy machine the broker takes them late, and this is about
+# their order.
+LAMP = {'version': 4, 'limits': {'waiting': 65_000}, 'clients': {'s1': [['t/#', ['pub', 'sub']]]}}
 
 
 def register(number):

@@ -123,6 +123,8 @@ def twenty_devices_at_once(room):
             device.connect(name)
             topic = device.register('d/' + name)
             for number in range(5):
+                # All pause for longer than a wait of a worker lasts, so that the next one's turn comes
+                time.sleep(0.3)
                 device.publish(topic, b'%d' % number)
             device.leave()
         except (Failure, OSError) as fault:

@@ -1,5 +1,5 @@
 #!/usr/bin/env python3
-"""refused_calls.py [--all]
+"""refused_calls.py [--all] [--lanes N]
 
 Refuses memory to the calls that take it, one allocation a run, and makes each call that met it again:
 tests/refused/ is a program without proof that does this, and looks at what is behind the refusal. A refused
@@ -24,8 +24,9 @@ were refused to each call by the kind of its event or of what it was about, and 
 The exit status is 1 where something is wrong, or where an input that was tried as a whole left a call without
 a refusal that is not one of FREE.
 
-Each processor builds once, and with --all once more before, to count the allocations of each input. A build
-takes some two minutes, and each run some 0.3 seconds."""
+Each processor builds once, and with --all once more before, to count the allocations of each input; with
+--lanes no more than N of them are used. A build takes some three minutes, and each run a second or two, nearly
+all of which the start of its process takes: so what an input makes at most is said closely."""
 import collections
 import os
 import random
@@ -50,7 +51,7 @@ DRAWN, SEED = 100, 1
 REFUSED, BEFORE = 4000, 3
 # No input makes so many allocations
 MOST = 3000
-# So many processors are used at most: each build takes some memory
+# So many processors are used at most, where the command says no number: each build takes some memory
 MOST_LANES = 4
 # Random scripts of so many lines, no longer than this, are those of these seeds; the gate takes the first few
 LINES, MOST_BYTES, SEEDS, FEW = 24, 12_000, range(5000, 6000), 6
@@ -143,7 +144,7 @@ def one_by_one():
     lines += [packet_lines(octets, given) for octets in PACKETS for given in (octets, pieces(octets))]
     text, printed = [''.join(line[place] + '\n' for line in lines).encode() for place in (0, 1)]
     rows = [made for _, _, made in lines]
-    return Input(ONE_BY_ONE, text, printed, rows, {call for made in rows for call in made}, 380)
+    return Input(ONE_BY_ONE, text, printed, rows, {call for made in rows for call in made}, 335)
 
 
 def plays(letter, text, printed, most):
@@ -181,8 +182,8 @@ def inputs(most_scripts):
     """The inputs by their names: those that the gate tries as a whole, and the others."""
     each = refused_kinds.every_kind()
     printed = gateway_model.play(each)[1]
-    whole = {'steps of each kind': plays(STEPS, each, printed, 1250), 'calls': one_by_one(),
-             'a ledger': plays(LEDGER, TICKS, gateway_model.play(TICKS)[1], 150)}
+    whole = {'steps of each kind': plays(STEPS, each, printed, 790), 'calls': one_by_one(),
+             'a ledger': plays(LEDGER, TICKS, gateway_model.play(TICKS)[1], 50)}
     drawn = {'acts of each kind': plays(ACTS, each, printed, 1250),
              'a run of each kind': plays(RUN, each, printed, 1250)}
     for place, (text, printed) in enumerate(scripts(most_scripts), 1):
@@ -233,9 +234,15 @@ def run_some(numbered):
     return dict(zip(map(int, parts[::2]), parts[1::2]))
 
 
+def lanes_to_use():
+    """How many processors are used."""
+    most = int(sys.argv[sys.argv.index('--lanes') + 1]) if '--lanes' in sys.argv else MOST_LANES
+    return min(len(os.sched_getaffinity(0)), most)
+
+
 def run_all(cases):
     """What is printed for each case, in order, where each processor builds once and runs its share of them."""
-    lanes = min(len(os.sched_getaffinity(0)), MOST_LANES)
+    lanes = lanes_to_use()
     numbered = list(enumerate(cases))
     shares = [numbered[lane::lanes] for lane in range(min(lanes, len(cases)))]
     printed = {}

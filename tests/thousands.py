@@ -195,6 +195,13 @@ class Crowd:
                 pass
 
 
+def clients_told(gateway):
+    """How many clients were let in, by the lines that tell so."""
+    counts = [re.fullmatch(r'sng: (?:client \S+|(\d+) more clients) let in(?:, refused or lost)?', line)
+              for line in list(gateway.lines['err'])]
+    return sum(int(found[1] or 1) for found in counts if found)
+
+
 def serves(room):
     """All clients come, subscribe, and are handed a message; `status` counts them."""
     broker = room.test_broker()
@@ -222,6 +229,8 @@ def serves(room):
     gateway.say('status')
     gateway.line('out', '^status clients: active %d, asleep 0' % CLIENTS)
     gateway.line('out', '^status subscriptions: %d' % CLIENTS)
+    # each has a line of its own or is counted in one; what comes behind is of a second with lines left
+    until(lambda: clients_told(gateway) == CLIENTS, 'a line or a count of each client')
     # lesser limits put nobody out, and let nobody else in
     gateway.replace({'version': 1, 'clients': {who: [['all', ['sub']]] for who in ('c1', 'new')}})
     crowd.ask({1: bytes.fromhex(PING), CLIENTS - 1: bytes.fromhex(PING)}, b'\2\x17')

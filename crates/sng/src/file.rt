@@ -1,7 +1,7 @@
 //! The file of a policy, and the words that name it.
 ghost use Rattle.std.specs.Prelude.{◌≢◌};
 
-use crate::report::out_of_memory;
+use sng_command::out_of_memory;
 use sng_script::Status;
 use sng_script::ending::ended;
 use sng_script::file::read_text;

@@ -3,16 +3,12 @@
 
 mod book;
 mod checking;
-mod command;
 mod file;
 mod may;
 mod policy;
-mod report;
 mod serving;
-mod words;
 
-use command::{Chosen, filters_among, read_command};
-use report::{out_of_memory, report};
+use sng_command::{Chosen, filters_among, out_of_memory, read_command, report, texts, words};
 use sng_gateway::play::play;
 use sng_questions::covering::cover_words;
 use sng_serve::End;
@@ -21,7 +17,6 @@ use std::alloc::AllocError;
 use std::io;
 use std::process::ExitCode;
 use std::rt::Env;
-use words::{texts, words};
 
 fn main(rt: HostRuntime) -> ExitCode {
     let end = match read_words(&rt) {

@@ -1,7 +1,6 @@
 //! `sng may ..`: its words, and what is printed where there is no answer.
-use crate::command::MayWords;
 use crate::file::{file_text, first_no_text, report_file, report_word};
-use crate::report::out_of_memory;
+use sng_command::{MayWords, out_of_memory};
 use sng_questions::inquiry::{Inquiry, InquiryFault, client_inquiry, source_inquiry};
 use sng_questions::may::may;
 use sng_script::Status;

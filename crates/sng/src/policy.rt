@@ -1,7 +1,6 @@
 //! `sng policy ..`: the text that it checks.
-use crate::command::PolicyWords;
 use crate::file::{file_text, first_no_text, report_file, report_word};
-use crate::report::out_of_memory;
+use sng_command::{PolicyWords, out_of_memory};
 use sng_questions::canonical::canonical_of;
 use sng_questions::report::{Report, report_of};
 use sng_script::Status;

@@ -16,9 +16,9 @@ ghost use Rattle.sng_history.specs.Arriving.{sent_at};
 
 use crate::answers::only;
 use crate::parts::Parts;
-use bytes::Bytes;
 use mqtt_frames::{Packet, Publish, SubscribeAck, SubscribeCode};
 use sng_book::{Decision, Denial, FormDenial, Out, Outcome, Outs, OutsPair, PeerDenial, Who};
+use sng_queue::Content;
 use sng_sessions::Sessions;
 use sng_text::{Qos, TopicFilter, TopicName};
 use sng_turns::deliver::{Incoming, Kept, deliver, keep_all};
@@ -112,12 +112,9 @@ impl Parts {
                 // `text` says that the name is one
                 let _text = name.text();
                 let fixed = fixed_id(&self.policy, &name);
-                let qos = sent_at(packet_id);
                 let message = Incoming {
-                    name,
-                    payload: Bytes::from_vec(payload.into_vec())?,
-                    qos,
-                    retain,
+                    content: Content::new(alloc, name, payload, retain)?,
+                    qos: sent_at(packet_id),
                     fixed,
                 };
                 let kept = deliver(alloc, &self.policy, &message, &self.sessions, outs)?;

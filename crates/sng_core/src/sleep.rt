@@ -12,9 +12,10 @@ use crate::answers::{dismissed, only};
 use crate::messages::denied_frame;
 use sng_book::{Decision, Denial, FormDenial, Out, Outcome, Outs, OutsPair, Who};
 use sng_policy::InForce;
+use sng_queue::Queue;
 use sng_sessions::{Change, Sessions};
 use sng_states::ClientState;
-use sng_text::ClientId;
+use sng_text::{ClientId, Qos};
 use sng_turns::serve::{Settled, pong, serve_plan};
 use std::alloc::{AllocError, Global};
 
@@ -188,7 +189,7 @@ fn wake(
     ensures next { OnOk result (sessions.new ≡ moved_at place (woken_next policy.now clock) sessions.old) }
     ensures err { OnErr result (sessions.new ≡ sessions.old) }
 {
-    let mut outs = Outs::new(alloc);
+    let mut outs = room_for(alloc, sessions.queue(place))?;
     let phase = ClientState::Awake;
     let settled = Settled::Nothing;
     let handed = serve_plan(alloc, policy, phase, sessions, place, settled, &mut outs)?;
@@ -197,4 +198,19 @@ fn wake(
     sessions.hand(place, handed, clock);
     sessions.change(place, Change::Drains, clock);
     Ok(outs)
+}
+
+/// Room for what is let out where all that waits leaves at once: two outs for each message, and PINGRESP. Behind
+/// a message at QoS 1 nothing leaves.
+fn room_for(alloc: Global, queue: &Queue) -> Result<Outs, AllocError>
+    ensures { IfOk result (λ outs. outs ≡ []) }
+{
+    let leaving = match queue.at(0) {
+        None => 0,
+        Some(front) => match front.qos() {
+            Qos::AtMostOnce => queue.len(),
+            Qos::AtLeastOnce => 1,
+        },
+    };
+    Outs::with_capacity(alloc, 2 * leaving + 1)
 }

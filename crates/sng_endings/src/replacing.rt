@@ -263,8 +263,15 @@ fn ending(
 fn end_note(client: &ClientId, filter: &TopicFilter, rule: Denial) -> Result<NotePair, AllocError>
     ensures { IfOk result (λ note. note ≡ Decision.End client.now filter.now (Outcome.Denied rule)) }
 {
-    let denied = Outcome::Denied(rule);
-    NotePair::of(Decision::End(client.copy()?, filter.copy()?, denied))
+    let (client, filter) = copies(client, filter)?;
+    NotePair::of(Decision::End(client, filter, Outcome::Denied(rule)))
+}
+
+/// The client id and the filter, in memory of their own. An `Err` is a failed allocation.
+fn copies(client: &ClientId, filter: &TopicFilter) -> Result<(ClientId, TopicFilter), AllocError>
+    ensures { IfOk result (λ copies. copies ≡ (client.now, filter.now)) }
+{
+    Ok((client.copy()?, filter.copy()?))
 }
 
 /// The ending, where there is one, comes behind the others. An `Err` is a failed allocation.

@@ -15,8 +15,11 @@ use sng_script::{Obstacle, Status};
 use std::alloc::Global;
 use std::io::{BufRead, BufReader, BufWriter, Read, Write};
 
-/// How many bytes are read or written at a time.
-const BUFFER_BYTES: usize = 65536;
+/// How many bytes are read at a time.
+const INPUT_BYTES: usize = 65536;
+
+/// How many bytes are written at a time. What is longer is written as it is, without a copy.
+const OUTPUT_BYTES: usize = 16384;
 
 /// Plays the script that `input` gives and prints a row for each event to `output`, which is flushed at the
 /// end.
@@ -39,7 +42,7 @@ fn play_buffered<R: Read + Drop, W: Write>(
     input: R,
     output: &mut W,
 ) -> Option<Status> {
-    let mut writer = BufWriter::with_capacity(alloc, BUFFER_BYTES, output).ok()?;
+    let mut writer = BufWriter::with_capacity(alloc, OUTPUT_BYTES, output).ok()?;
     Some(play_script(alloc, input, &mut writer))
 }
 
@@ -65,7 +68,7 @@ fn play_input<R: Read + Drop, W: Write>(
         (W.contents output.old) (W.contents output.new)) }
 {
     let reader = CountedReader::new(input);
-    match BufReader::with_capacity(alloc, BUFFER_BYTES, reader) {
+    match BufReader::with_capacity(alloc, INPUT_BYTES, reader) {
         Ok(mut reader) => play_lines(alloc, &mut reader, output, line),
         Err(_) => Err(Obstacle::OutOfMemory),
     }

@@ -22,3 +22,8 @@ with_name topics id name = insert_entry nat_cmp topics id name
 abbrev pub id_of : List (ℕ × List ℕ) → List ℕ → Option ℕ
 id_of [] name = None
 id_of ((id, topic) ∷ topics) name = if bytes_eq topic name then Some id else id_of topics name
+
+-- what an index finds, where there is one
+abbrev pub indexed : {X : Type 0} → Option X → (X → Option ℕ) → Option ℕ
+indexed None find = None
+indexed (Some index) find = find index

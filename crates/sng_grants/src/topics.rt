@@ -5,7 +5,7 @@ ghost use Rattle.std.specs.Map.{keys_of};
 ghost use Rattle.std.specs.Option.{option_copied};
 ghost use Rattle.std.specs.Str.{bytes_eq};
 ghost use Rattle.sng_grants.specs.Laws.{AreIdsInOrder};
-ghost use Rattle.sng_grants.specs.Topics.{IsTopicId, name_of, id_of};
+ghost use Rattle.sng_grants.specs.Topics.{IsTopicId, name_of, id_of, indexed};
 
 use crate::{Listed, MAX_TOPICS};
 use sng_text::TopicName;
@@ -22,22 +22,27 @@ pub type Names = Listed<u16, TopicName, MAX_TOPICS>;
 #[derive(Debug, Drop)]
 pub struct Topics {
     names: Names,
-    ids: HashMap<TopicName, u16>,
+    /// The index, which the topics of `new` do without. It lies apart, since it is large: so a policy is
+    /// small, and with it each event, of which only one in many brings a policy.
+    ids: Option<Box<Index, Global>>,
 }
+
+/// The least id of each name.
+type Index = HashMap<TopicName, u16>;
 
 impl Model for Topics {
     ghost use Rattle.std.specs.Prelude.{List, ℕ, ◌≡◌, All};
     ghost use Rattle.std.specs.HashMap.{get};
     ghost use Rattle.std.specs.Map.{keys_of};
     ghost use Rattle.std.specs.Str.{bytes_eq};
-    ghost use Rattle.sng_grants.specs.Topics.{IsTopicId, id_of};
+    ghost use Rattle.sng_grants.specs.Topics.{IsTopicId, id_of, indexed};
 
     ghost Value = { List (ℕ × List ℕ) };
 
     ghost view = { λ t. t.names };
 
     ghost invariant = { λ t. All IsTopicId (keys_of t.names)
-        × ((name : List ℕ) → get bytes_eq t.ids name ≡ id_of t.names name) };
+        × ((name : List ℕ) → indexed t.ids (λ index. get bytes_eq index.value name) ≡ id_of t.names name) };
 }
 
 impl Topics {
@@ -47,7 +52,7 @@ impl Topics {
     {
         Topics {
             names: Names::new(alloc),
-            ids: HashMap::new(alloc),
+            ids: None,
         }
     }
 
@@ -56,8 +61,11 @@ impl Topics {
         requires { All IsTopicId (keys_of names) }
         ensures { IfOk result (λ t. t ≡ names) }
     {
-        let ids = ids_of(alloc, &names)?;
-        Ok(Topics { names, ids })
+        let ids = Box::new(alloc, ids_of(alloc, &names)?)?;
+        Ok(Topics {
+            names,
+            ids: Some(ids),
+        })
     }
 
     /// How many topic ids are predefined. Takes no memory.
@@ -88,7 +96,10 @@ impl Topics {
     pub fn id_of(&self, name: &TopicName) -> Option<u16>
         ensures { result ≡ id_of self.now name.now }
     {
-        self.ids.get(name).copied()
+        match &self.ids {
+            None => None,
+            Some(ids) => ids.get(name).copied(),
+        }
     }
 
     /// The ids with their names, in the order of the ids.
@@ -103,13 +114,28 @@ impl Topics {
         ensures { IfOk result (λ t. t ≡ self.now) }
     {
         let names = self.names.clone()?;
-        let ids = self.ids.clone()?;
+        let ids = copied_index(&self.ids)?;
         Ok(Topics { names, ids })
     }
 }
 
+/// An index that finds the same, in memory of its own, where there is one.
+fn copied_index(ids: &Option<Box<Index, Global>>) -> Result<Option<Box<Index, Global>>, AllocError>
+    ensures { IfOk result (λ copy. (name : List ℕ)
+        → indexed copy (λ index. get bytes_eq index.value name)
+        ≡ indexed ids.now (λ index. get bytes_eq index.value name)) }
+{
+    match ids {
+        None => Ok(None),
+        Some(ids) => {
+            let copy = ids.clone()?;
+            Ok(Some(copy))
+        }
+    }
+}
+
 /// The least id of each name.
-fn ids_of(alloc: Global, names: &Names) -> Result<HashMap<TopicName, u16>, AllocError>
+fn ids_of(alloc: Global, names: &Names) -> Result<Index, AllocError>
     ensures { IfOk result (λ ids. (name : List ℕ) → get bytes_eq ids name ≡ id_of names.now name) }
 {
     let mut ids = HashMap::new(alloc);

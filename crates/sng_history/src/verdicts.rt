@@ -1,14 +1,16 @@
 //! What the policy in force says, as an outcome: to a publish, to a message for a client, and to a subscription
 //! (RFC 9431, 2.3). What a policy answers becomes a denial here alone. An `Err` is a failed allocation, for a
 //! denial that shows who asks, a name or a filter.
-ghost use Rattle.std.specs.Prelude.{◌≡◌, IfOk};
+ghost use Rattle.std.specs.Prelude.{◌≡◌, Some, IfOk};
 ghost use Rattle.std.specs.Option.{option_copied};
 ghost use Rattle.sng_history.specs.Verdicts.{exit, coverage, name_outcome, filter_outcome, unlisted, missing};
+ghost use Rattle.sng_policy.specs.Grants.{grant_by};
 ghost use Rattle.sng_history.specs.Outgoing.{receive};
 
 use sng_book::{Denial, GrantDenial, Outcome};
+use sng_grants::Scope;
 use sng_outbox::Origin;
-use sng_policy::{FilterGrant, InForce, NameGrant, Permission};
+use sng_policy::{FilterGrant, InForce, NameGrant, Permission, grant_by};
 use sng_text::{ClientId, TopicFilter, TopicName};
 use std::alloc::{AllocError, Global};
 
@@ -42,7 +44,21 @@ pub fn receive(
 ) -> Result<Outcome, AllocError>
     ensures { IfOk result (λ outcome. outcome ≡ receive policy.now client.now name.now) }
 {
-    let grant = policy.may_receive(client, name);
+    receive_by(alloc, policy.scope(client), client, name)
+}
+
+/// The judgement of a message for the client under the name, by the scope that the policy in force gives it.
+/// For one message after another the scope is found once.
+pub fn receive_by(
+    alloc: Global,
+    scope: Option<&Scope>,
+    client: &ClientId,
+    name: &TopicName,
+) -> Result<Outcome, AllocError>
+    ensures { IfOk result (λ outcome. outcome ≡ name_outcome Permission.Subscribe (Some client.now) name.now
+        (grant_by Permission.Subscribe (option_copied scope.entry) name.now)) }
+{
+    let grant = grant_by(Permission::Subscribe, scope, name);
     name_outcome(alloc, Permission::Subscribe, Some(client), name, grant)
 }
 

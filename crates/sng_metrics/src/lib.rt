@@ -31,7 +31,7 @@ pub use heard::{Form, Heard, Page, Refusal};
 pub use limits::{MAX_FIELDS, MAX_REQUEST};
 pub use metric::Metric;
 pub use page::{metrics_answer, push_page};
-pub use response::{Answer, AnswerFault, read_answer, request_for};
+pub use response::{Answer, AnswerFault, USUAL_METRICS, read_answer, request_for};
 pub use summary::{Summary, SummaryFault, Traffic, read_summary};
 pub use table::push_table;
 pub use visitor::Visitor;

@@ -12,6 +12,9 @@ use httparse::spans::{EMPTY_HEADER_SPAN, HeaderSpan, ResponseSpans, parse_respon
 use httparse::{Error, Status};
 use std::alloc::{AllocError, Global};
 
+/// Where a gateway is asked if no other address is named.
+pub const USUAL_METRICS: &str = "127.0.0.1:9884";
+
 /// An answer.
 #[derive(Clone, Copy, Debug)]
 pub struct Answer<'a> {

@@ -5,14 +5,14 @@ ghost use Rattle.std.specs.Option.{option_copied};
 ghost use Rattle.sng_grants.specs.Ends.{in_force, next_end};
 ghost use Rattle.sng_grants.specs.Policies.{no_policy};
 ghost use Rattle.sng_grants.specs.Sources.{is_reached, scope_of};
-ghost use Rattle.sng_policy.specs.Grants.{lists, lists_source, publish_grant, source_grant, receive_grant};
+ghost use Rattle.sng_policy.specs.Grants.{lists, lists_source, publish_grant, source_grant};
 ghost use Rattle.sng_policy.specs.Grants.{subscribe_grant, topic, topic_id};
 ghost use Rattle.sng_policy.specs.Laws.{SaysOfFilter, JoinsReceiving};
 
 use crate::names::grant_by;
 use crate::subscriptions::subscribe_by;
 use crate::{FilterGrant, NameGrant, Permission};
-use sng_grants::{Limits, Policy, is_reached};
+use sng_grants::{Limits, Policy, Scope, is_reached};
 use sng_text::{ClientId, Compare, TopicFilter, TopicName};
 use std::alloc::{AllocError, Global};
 use std::marker::Model;
@@ -116,6 +116,13 @@ impl InForce {
         self.policy.source_scope(source).is_some()
     }
 
+    /// The scope that it gives the client, where it lists it. Takes no memory.
+    pub fn scope(&self, client: &ClientId) -> Option<&Scope>
+        ensures { option_copied result ≡ scope_of self.now.clients client.now }
+    {
+        self.policy.client_scope(client)
+    }
+
     /// What it says to a publish under the name by the client. Takes no memory.
     pub fn may_publish(&self, client: &ClientId, name: &TopicName) -> NameGrant
         ensures { result ≡ publish_grant self.now client.now name.now }
@@ -128,17 +135,6 @@ impl InForce {
         ensures { result ≡ source_grant self.now source name.now }
     {
         grant_by(Permission::Publish, self.policy.source_scope(source), name)
-    }
-
-    /// What it says to a message with the name for the client. Takes no memory.
-    pub fn may_receive(&self, client: &ClientId, name: &TopicName) -> NameGrant
-        ensures { result ≡ receive_grant self.now client.now name.now }
-    {
-        grant_by(
-            Permission::Subscribe,
-            self.policy.client_scope(client),
-            name,
-        )
     }
 
     /// What it says to a subscription of the client by the filter, as `may_subscribe` does of a policy.

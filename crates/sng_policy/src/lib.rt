@@ -13,6 +13,6 @@ pub mod subscriptions;
 pub use grant::{FilterGrant, NameGrant};
 pub use in_force::InForce;
 pub use listed::{lists, lists_source, same_scope, topic, topic_id};
-pub use names::{may_publish, may_receive, source_may_publish};
+pub use names::{grant_by, may_publish, may_receive, source_may_publish};
 pub use permission::Permission;
 pub use subscriptions::may_subscribe;

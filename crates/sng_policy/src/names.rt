@@ -48,8 +48,8 @@ pub fn may_receive(policy: &Policy, client: &ClientId, name: &TopicName, clock: 
     )
 }
 
-/// What the scope of who asks for the permission says about the name.
-pub(crate) fn grant_by(permission: Permission, scope: Option<&Scope>, name: &TopicName) -> NameGrant
+/// What the scope of who asks for the permission says about the name, where there is one. Takes no memory.
+pub fn grant_by(permission: Permission, scope: Option<&Scope>, name: &TopicName) -> NameGrant
     ensures { result ≡ grant_by permission (option_copied scope.entry) name.now }
 {
     match scope {

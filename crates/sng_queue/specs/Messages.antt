@@ -10,8 +10,21 @@ pub record Message : Type 0 where
   pub qos : Qos
   pub retain : Bool
 
+-- what a message says, whoever it is for
+pub record Content : Type 0 where
+  pub name : List ℕ
+  pub payload : List ℕ
+  pub retain : Bool
+
+abbrev pub content : List ℕ → List ℕ → Bool → Content
+content name payload retain = record { name = name; payload = payload; retain = retain }
+
 abbrev pub message : List ℕ → List ℕ → Qos → Bool → Message
 message name payload qos retain = record { name = name; payload = payload; qos = qos; retain = retain }
+
+-- the message with this content, at this QoS
+abbrev pub message_of : Content → Qos → Message
+message_of c qos = message c.name c.payload qos c.retain
 
 -- of a list of one message that one
 abbrev pub only : List Message → Message

@@ -25,8 +25,8 @@ impl Model for QueueCopy {
 }
 
 impl QueueCopy {
-    /// These messages and this exchange, in memory of its own for just these but for the payloads, which the
-    /// two share. Only memory can fail.
+    /// These messages and this exchange, in memory of its own for just these but for what the messages say,
+    /// which the two share. Only memory can fail.
     pub(crate) fn of(
         alloc: Global,
         waiting: &LinkedList<Waiting>,

@@ -75,7 +75,7 @@ impl Exchange {
         }
     }
 
-    /// An equal exchange, in memory of its own but for a payload, which the two share. Only memory can fail.
+    /// An equal exchange, in memory of its own but for a content, which the two share. Only memory can fail.
     pub fn copy(&self) -> Result<Exchange, AllocError>
         ensures { IfOk result (λ e. e ≡ self.now) }
     {

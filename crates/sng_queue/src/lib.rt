@@ -2,6 +2,7 @@
 #![tactic(auto)]
 
 mod comparing;
+pub mod content;
 pub mod copying;
 pub mod exchange;
 pub mod kind;
@@ -11,6 +12,7 @@ pub mod parcel;
 pub mod queue;
 pub mod waiting;
 
+pub use content::Content;
 pub use copying::QueueCopy;
 pub use exchange::{Exchange, Sending};
 pub use kind::TopicIdKind;

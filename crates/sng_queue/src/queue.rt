@@ -1,5 +1,5 @@
 //! The messages that wait for one client, and its open exchange.
-ghost use Rattle.std.specs.Prelude.{◌≡◌, ◌<◌, ◌≤◌, ◌==◌, [], ◌∷◌, ◌++◌, length, slice_get, nat_le, None};
+ghost use Rattle.std.specs.Prelude.{◌≡◌, ◌<◌, ◌≤◌, ◌==◌, [], ◌∷◌, ◌++◌, length, drop, slice_get, nat_le, None};
 ghost use Rattle.std.specs.Prelude.{IfOk, MatchResult};
 ghost use Rattle.std.specs.Map.Iter.{ShowsInOrder, deref};
 ghost use Rattle.std.specs.Option.{option_copied};
@@ -101,6 +101,18 @@ impl Queue {
         ensures order { ShowsInOrder (deref {X = Message}) }
     {
         self.waiting.iter()
+    }
+
+    /// The messages from this place on, the front being at 0, the oldest first. Takes one walk up to there.
+    pub fn iter_from(&self, place: usize) -> Iter<'_, Waiting>
+        ensures messages { result ≡ drop place self.now.waiting }
+        ensures within { length self.now.waiting ≤ MAX_QUEUED }
+    {
+        let mut messages = self.waiting.iter();
+        for _passed in 0..place {
+            let _ = messages.next();
+        }
+        messages
     }
 
     /// Takes the front out, and with it an exchange that announced it. None, and nothing changes, where

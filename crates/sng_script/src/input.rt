@@ -6,6 +6,7 @@ ghost use Rattle.sng_script.specs.declared.limits.TheConstants.{MAX_LINE};
 
 use crate::limits::MAX_LINE;
 use crate::obstacle::Obstacle;
+use memchr::memchr;
 use std::io::{BufRead, Error, ErrorKind};
 
 /// What a piece of the input leaves of its line.
@@ -101,7 +102,7 @@ pub fn line_feed_in(bytes: &[u8]) -> Option<usize>
     ensures there { IfSome result (λ at. slice_index bytes.now at ≡ 10) }
     ensures none { IfNone result (IsWithinLine bytes.now) }
 {
-    bytes.iter().position(|byte| *byte == b'\n')
+    memchr(b'\n', bytes)
 }
 
 /// Why a read that failed ends the script, unless it is to be tried again.

@@ -6,8 +6,8 @@ use crate::level::Level;
 use crate::question::{NoAnswer, answer_at};
 use crate::tell::tell;
 use sng_metrics::{
-    AnswerFault, Health, Page, Summary, SummaryFault, push_table, read_answer, read_summary,
-    request_for,
+    AnswerFault, Health, Page, Summary, SummaryFault, USUAL_METRICS, push_table, read_answer,
+    read_summary, request_for,
 };
 use sng_operator::ask::socket_address_of;
 use sng_script::Status;
@@ -18,9 +18,6 @@ use std::io::Write;
 use std::net::Net;
 use std::rt::Clock;
 use std::{fmt, io};
-
-/// Where a gateway is asked if no other address is named.
-pub const USUAL_METRICS: &str = "127.0.0.1:9884";
 
 /// The status of an answer that has the page (RFC 9110, 15.3.1).
 const OK: u16 = 200;

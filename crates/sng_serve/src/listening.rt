@@ -1,5 +1,5 @@
-//! Who reads the socket of the devices: one worker at a time, so what comes has an order. While datagrams lie
-//! in the socket it goes on reading for a burst of them, since to change costs a wake-up. Behind that whoever
+//! Who reads the socket of the devices: one worker at a time, so what comes has an order. It goes on reading for
+//! a burst of datagrams, or until none comes for a while, since to change costs a wake-up. Behind that whoever
 //! waits comes first.
 ghost use Rattle.std.specs.Prelude.{◌≡◌, ◌≢◌, ◌≤◌, ◌↔◌, IsTrue, None, Some, ℕ};
 

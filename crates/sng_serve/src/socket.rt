@@ -7,7 +7,7 @@ ghost use Rattle.sng_desk.specs.declared.source.Got.TheVariants.{Failed as faile
 use crate::hub::Hub;
 use crate::udp_calls::receive_now;
 use sng_book::Address;
-use sng_bounds::paths::Paths;
+use sng_bounds::paths::{Paths, REST_MS};
 use sng_desk::{Datagrams, Got};
 use sng_frames::{MAX_DATAGRAM, write_disconnect};
 use sng_operator::ask::socket_address;
@@ -17,12 +17,12 @@ use std::io::{Error, ErrorKind};
 use std::net::{Ipv4Addr, Net, SocketAddr, SocketAddrV4, UdpSocket};
 use std::rt::Clock;
 use std::sync::Wait;
-use std::time::Duration;
 
 /// One byte more than the longest datagram that is read, so that a longer one shows.
 const BUFFER_BYTES: usize = MAX_DATAGRAM + 1;
 
-/// So many datagrams that lie in the socket a worker reads before the next one may.
+/// So many datagrams a worker reads before the next one may: the first one it may have waited for, and the others
+/// lay in the socket.
 const MAX_BURST: u32 = 256;
 
 /// So many calls may fail one after another before the socket is taken for lost.
@@ -43,13 +43,15 @@ pub struct Socket<'a, R: Net + Clock + Wait> {
     /// A DISCONNECT, as it answers who has no session.
     disconnect: Vec<u8>,
     paths: Paths,
+    /// Until when some address may rest, in ms; 0 where none does.
+    rest_end: u64,
     failures: u64,
     /// How many datagrams could not be sent.
     unsent: u64,
     /// How many datagrams were lost for want of memory.
     lost: u64,
     errors: u32,
-    /// How many datagrams of a burst it read, one after another, that lay in the socket.
+    /// How many datagrams of a burst it read, one after another.
     burst: u32,
 }
 
@@ -74,6 +76,7 @@ impl<'a, R: Net + Clock + Wait> Socket<'a, R> {
             buffer: vec![in alloc; 0; BUFFER_BYTES]?,
             disconnect: write_disconnect(alloc, None)?,
             paths: Paths::new(alloc)?,
+            rest_end: 0,
             failures: 0,
             unsent: 0,
             lost: 0,
@@ -117,7 +120,8 @@ impl<'a, R: Net + Clock + Wait> Socket<'a, R> {
         from.port() == self.port && is_of_this_machine(self.rt, *from.ip())
     }
 
-    /// The datagram that lies in the socket, or else one for which it waits.
+    /// The datagram that lies in the socket, or else one for which it waits, with which a burst begins: others may
+    /// lie there by the time at which it was acted on.
     fn listen(&mut self) -> Got<(Address, Octets)>
         ensures failures { self.old.failures ≤ self.new.failures }
         ensures failed { (result ≡ failed_answer) ↔ (self.old.failures < self.new.failures) }
@@ -129,7 +133,7 @@ impl<'a, R: Net + Clock + Wait> Socket<'a, R> {
                 self.take(from, count)
             }
             None => {
-                self.burst = 0;
+                self.burst = 1;
                 self.wait()
             }
         }
@@ -197,20 +201,44 @@ impl<'a, R: Net + Clock + Wait> Socket<'a, R> {
         may
     }
 
+    /// Whether nothing is sent to the address for a while. The clock is asked only while some address may rest.
+    fn is_resting(&mut self, to: Address) -> bool
+        ensures failures { self.new.failures ≡ self.old.failures }
+        ensures unsent { self.new.unsent ≡ self.old.unsent }
+    {
+        if self.rest_end == 0 {
+            return false;
+        }
+        let now = ms_of(self.rt);
+        if self.rest_end <= now {
+            self.rest_end = 0;
+        }
+        self.paths.rests(to, now)
+    }
+
+    /// There was no room for a datagram to the address: nothing is sent to it for a while.
+    fn rest(&mut self, to: Address)
+        ensures failures { self.new.failures ≡ self.old.failures }
+        ensures unsent { self.new.unsent ≡ self.old.unsent }
+    {
+        let now = ms_of(self.rt);
+        self.paths.rest(to, now);
+        self.rest_end = now.saturating_add(REST_MS);
+    }
+
     /// Sends a datagram. Whether it left: not where there is no room in time, nor for a while behind that.
     fn pass(&mut self, to: Address, datagram: &[u8]) -> bool
         ensures failures { self.new.failures ≡ self.old.failures }
         ensures unsent { self.new.unsent ≡ self.old.unsent }
     {
-        let now = self.rt.monotonic().map_or(0, |now| ms_of(now));
-        if self.paths.rests(to, now) {
+        if self.is_resting(to) {
             return false;
         }
         match self.socket.send_to(datagram, socket_address(to)) {
             Ok(_) => true,
             Err(error) => {
                 if is_full(&error) {
-                    self.paths.rest(to, now);
+                    self.rest(to);
                 }
                 false
             }
@@ -292,11 +320,13 @@ fn is_full(error: &Error) -> bool {
     }
 }
 
-/// The time in ms.
-fn ms_of(time: Duration) -> u64 {
-    time.as_secs()
-        .saturating_mul(1000)
-        .saturating_add(u64::from(time.subsec_millis()))
+/// The time in ms, by a clock that never goes back. It is 0 where the clock cannot be read.
+fn ms_of<R: Clock>(rt: &R) -> u64 {
+    rt.monotonic().map_or(0, |now| {
+        now.as_secs()
+            .saturating_mul(1000)
+            .saturating_add(u64::from(now.subsec_millis()))
+    })
 }
 
 /// The second of now, by a clock that never goes back. It is 0 where the clock cannot be read.

@@ -422,15 +422,15 @@ impl Sessions {
                 Ok(())
             }
             None => {
+                self.clients.reserve(1)?;
+                let place = self.clients.len();
+                add_block(&mut self.times, place)?;
                 let tables = NewTables {
                     ids: ClientIds::new(alloc),
                     queue: Queue::new(alloc),
                     filters: ClientFilters::new(),
                     wills: WillDialogue::new(alloc),
                 };
-                self.clients.reserve(1)?;
-                let place = self.clients.len();
-                add_block(&mut self.times, place)?;
                 let (clients, places) = (&mut self.clients, &mut self.places);
                 admit(clients, places, from, connect, tables, clock);
                 note_due(&mut self.times, &self.clients, place);

@@ -8,3 +8,5 @@ pub mod Ipv4Lemmas
 pub mod AddressLemmas
 pub mod CommonLemmas
 pub mod MatchLemmas
+pub mod OrderLemmas
+pub mod FrontLemmas

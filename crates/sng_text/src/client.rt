@@ -1,6 +1,7 @@
 //! Client ids (MQTT-SN 1.2, 5.3.1).
-ghost use Rattle.std.specs.Prelude.{◌≡◌, ◌⊎◌, true, Err, Some, None, IfOk, IfErr};
+ghost use Rattle.std.specs.Prelude.{◌≡◌, ◌<◌, ◌⊎◌, true, Err, Some, None, All, IfOk, IfErr};
 ghost use Rattle.sng_text.specs.ClientIds.{is_client_id, client_id_fault};
+ghost use Rattle.sng_text.specs.Kept.{front_of};
 
 use crate::kept::Text;
 use crate::{MAX_CLIENT_ID, TextFault, bytes};
@@ -46,6 +47,14 @@ impl ClientId {
         ensures client_id { is_client_id self.now ≡ true }
     {
         self.text.as_slice()
+    }
+
+    /// The first sixteen bytes as one number: of two ids where it differs, it says which comes first.
+    pub(crate) fn front(&self) -> u128
+        ensures value { result ≡ front_of self.now }
+        ensures bytes { All (λ b. b < 256) self.now }
+    {
+        self.text.front()
     }
 
     /// An equal client id. Only memory can fail, and only where the id is long.

@@ -1,6 +1,7 @@
 //! Where the bytes of a name, a filter or a client id lie. Most are short, and those lie in line: to make,
 //! copy or drop one takes no memory.
-ghost use Rattle.std.specs.Prelude.{◌≡◌, ◌≤◌, IfOk, length};
+ghost use Rattle.std.specs.Prelude.{◌≡◌, ◌<◌, ◌≤◌, All, IfOk, length, vec_len};
+ghost use Rattle.sng_text.specs.Kept.{front_of};
 
 use std::alloc::{AllocError, Global};
 use std::marker::Model;
@@ -18,7 +19,7 @@ pub struct Text {
 /// The two ways to keep them. A caller is told by neither which it is.
 #[derive(Debug, Drop)]
 enum Kept {
-    /// The first so many of these.
+    /// The first so many of these; those behind are 0, so that the front needs no count.
     Short(u8, [u8; MOST_SHORT]),
     /// In memory of their own.
     Long(Vec<u8>),
@@ -68,6 +69,18 @@ impl Text {
         }
     }
 
+    /// The first sixteen bytes as one number, the first one high, with zeros behind a shorter text. Takes
+    /// no memory.
+    pub(crate) fn front(&self) -> u128
+        ensures value { result ≡ front_of self.now }
+        ensures bytes { All (λ b. b < 256) self.now }
+    {
+        match &self.kept {
+            Kept::Short(_, bytes) => first_sixteen(bytes),
+            Kept::Long(bytes) => first_sixteen(bytes.as_slice()),
+        }
+    }
+
     /// An equal text. Only memory can fail, and only where it is long.
     pub fn copy(&self) -> Result<Text, AllocError>
         ensures { IfOk result (λ t. t ≡ self.now) }
@@ -91,10 +104,24 @@ fn short(text: &[u8]) -> Text
     Text { kept }
 }
 
-/// These bytes in their memory.
+/// These bytes in their memory, which are too many to lie in line.
 fn long(bytes: Vec<u8>) -> Text
+    requires { MOST_SHORT < vec_len bytes }
     ensures { result ≡ bytes.items }
 {
     let kept = Kept::Long(bytes);
     Text { kept }
+}
+
+/// The first sixteen bytes as one number, the first one high: written out, so that it is two loads.
+#[tactic(auto, unfolding(crate::specs::Kept::front_of))]
+fn first_sixteen(bytes: &[u8]) -> u128
+    requires { 16 ≤ length bytes.now }
+    ensures value { result ≡ front_of bytes.now }
+    ensures bytes { All (λ b. b < 256) bytes.now }
+{
+    u128::from_be_bytes([
+        bytes[0], bytes[1], bytes[2], bytes[3], bytes[4], bytes[5], bytes[6], bytes[7], bytes[8],
+        bytes[9], bytes[10], bytes[11], bytes[12], bytes[13], bytes[14], bytes[15],
+    ])
 }

@@ -46,28 +46,29 @@ impl Ord for ClientId {
 
     ghost matches_eq = { λ i j. texts_ties i j };
 
+    /// Most ids differ in their first sixteen bytes, and those are one number: no loop, whose end a processor
+    /// does not foresee.
+    #[tactic(auto, using(crate::proofs::FrontLemmas::front_decides))]
     fn cmp(&self, other: &ClientId) -> Ordering {
+        let (one, two) = (self.front(), other.front());
+        if one != two {
+            return one.cmp(&two);
+        }
         ordered(self.text(), other.text())
     }
 }
 
 /// The first octet that is not the same decides, and else the lengths do. Ids are short, so octet by octet is
-/// faster than in groups.
+/// faster than in groups where their fronts are the same.
 fn ordered(one: &[u8], two: &[u8]) -> Ordering
     ensures { result ≡ slice_cmp nat_cmp one.now two.now }
 {
-    match (one.split_first(), two.split_first()) {
-        (None, None) => Ordering::Equal,
-        (None, Some(_)) => Ordering::Less,
-        (Some(_), None) => Ordering::Greater,
-        (Some((first, one)), Some((second, two))) => {
-            if *first == *second {
-                ordered(one, two)
-            } else {
-                first.cmp(second)
-            }
+    for at in 0..one.len().min(two.len()) {
+        if one[at] != two[at] {
+            return one[at].cmp(&two[at]);
         }
     }
+    one.len().cmp(&two.len())
 }
 
 impl Hash for ClientId {

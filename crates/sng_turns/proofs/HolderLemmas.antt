@@ -78,20 +78,20 @@ first zs place x xs stand = ap (client_at zs) (sym (zero-add place)) ∙ stand 0
 
 outs_from : (policy : Policy) (i : Incoming) (zs : List Client) (place : ℕ) (xs : List Client)
     → StandFrom zs place xs
-    → holders_outs policy i zs (holders_from place i.name xs) ≡ all_outs policy i xs
+    → holders_outs policy i zs (holders_from place i.content.name xs) ≡ all_outs policy i xs
 outs_from policy i zs place [] stand = refl
 outs_from policy i zs place (x ∷ xs) stand =
-    one_outs policy i zs place x (holders_from (suc place) i.name xs) (greatest_qos x.filters i.name)
+    one_outs policy i zs place x (holders_from (suc place) i.content.name xs) (greatest_qos x.filters i.content.name)
     (first zs place x xs stand)
     ∙ ap (λ outs. deliver_outs policy i x ++ outs)
     (outs_from policy i zs (suc place) xs (later zs place x xs stand))
 
 kept_from : (policy : Policy) (i : Incoming) (zs : List Client) (place : ℕ) (xs : List Client)
     → StandFrom zs place xs
-    → holders_kept policy i zs (holders_from place i.name xs) ≡ all_kept policy i place xs
+    → holders_kept policy i zs (holders_from place i.content.name xs) ≡ all_kept policy i place xs
 kept_from policy i zs place [] stand = refl
 kept_from policy i zs place (x ∷ xs) stand =
-    one_kept policy i zs place x (holders_from (suc place) i.name xs) (greatest_qos x.filters i.name)
+    one_kept policy i zs place x (holders_from (suc place) i.content.name xs) (greatest_qos x.filters i.content.name)
     (first zs place x xs stand)
     ∙ ap (λ kept. deliver_kept policy i place x ++ kept)
     (kept_from policy i zs (suc place) xs (later zs place x xs stand))
@@ -100,11 +100,11 @@ from_all : (xs : List Client) → StandFrom xs 0 xs
 from_all xs n = ap (client_at xs) (omega arith)
 
 pub outs-all : (policy : Policy) (i : Incoming) (xs : List Client)
-    → holders_outs policy i xs (holders_from 0 i.name xs) ≡ all_outs policy i xs
+    → holders_outs policy i xs (holders_from 0 i.content.name xs) ≡ all_outs policy i xs
 outs-all policy i xs = outs_from policy i xs 0 xs (from_all xs)
 
 pub kept-all : (policy : Policy) (i : Incoming) (xs : List Client)
-    → holders_kept policy i xs (holders_from 0 i.name xs) ≡ all_kept policy i 0 xs
+    → holders_kept policy i xs (holders_from 0 i.content.name xs) ≡ all_kept policy i 0 xs
 kept-all policy i xs = kept_from policy i xs 0 xs (from_all xs)
 
 -- each of them is one of the clients

@@ -1,4 +1,3 @@
 pub mod KnownLemmas
-pub mod HandOverLemmas
 pub mod DeliverLemmas
 mod HolderLemmas

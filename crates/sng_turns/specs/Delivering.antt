@@ -7,7 +7,7 @@ use Rattle.sng_text.specs.declared.qos.Qos.{Qos}
 use Rattle.sng_grants.specs.declared.policy.Policy.{Policy}
 use Rattle.sng_states.specs.States.{is_due_messages}
 use Rattle.sng_fan.specs.Greatest.{greatest_qos}
-use Rattle.sng_queue.specs.Messages.{Message, message, is_sendable}
+use Rattle.sng_queue.specs.Messages.{Message, content, message_of, is_sendable}
 use Rattle.sng_queue.specs.declared.limits.TheConstants.{MAX_QUEUED}
 use Rattle.mqtt_frames.specs.declared.packet.Publish.{Publish}
 use Rattle.sng_book.specs.declared.decision.Decision.TheVariants as note
@@ -35,20 +35,18 @@ use Rattle.sng_turns.specs.HandingOver.{fixed_id, is_open, message_outs, message
 abbrev pub incoming : Policy → Publish → Incoming
 incoming policy p =
     record {
-      name = p.name;
-      payload = p.payload;
+      content = content p.name p.payload p.retain;
       qos = sent_at p.packet_id;
-      retain = p.retain;
       fixed = fixed_id policy p.name;
     }
 
 -- the QoS at which it is due to a client
 abbrev pub due_at : Incoming → Client → Option Qos
 due_at i x =
-    if is_due_messages x.phase then option_map (lesser i.qos) (greatest_qos x.filters i.name) else None
+    if is_due_messages x.phase then option_map (lesser i.qos) (greatest_qos x.filters i.content.name) else None
 
 abbrev pub message_at : Incoming → Qos → Message
-message_at i qos = message i.name i.payload qos i.retain
+message_at i qos = message_of i.content qos
 
 -- as it is due to a client
 abbrev pub arrived : Arrival → Message

@@ -1,7 +1,7 @@
 //! A message of the broker goes to each client for whom a filter stands that matches its name (MQTT 3.1.1,
 //! 3.3 and 4.6; MQTT-SN 1.2, 6.6, 6.10 and 6.14). What it lets out is planned for one client after another,
 //! with all memory, and what changes cannot fail.
-ghost use Rattle.std.specs.Prelude.{◌≡◌, ◌<◌, ◌∷◌, ◌++◌, [], length, true, IfOk, OnOk};
+ghost use Rattle.std.specs.Prelude.{◌≡◌, ◌<◌, ◌≤◌, ◌∷◌, ◌++◌, [], length, true, IfOk, OnOk};
 ghost use Rattle.sng_queue.specs.Messages.{is_sendable};
 ghost use Rattle.sng_history.specs.Arriving.{lesser};
 ghost use Rattle.sng_history.specs.Outgoing.{is_free};
@@ -14,24 +14,21 @@ ghost use Rattle.sng_turns.specs.Delivering.{all_outs, all_kept, keep_all};
 use crate::hand_over::is_open;
 use crate::known::{KnownId, known_id};
 use crate::turn::{Mail, Recipient, note_hand, take_turn};
-use bytes::Bytes;
 use sng_book::{Denial, Outcome, Outs, Place, RoomDenial};
 use sng_history::receive;
 use sng_policy::InForce;
-use sng_queue::{Parcel, Waiting};
+use sng_queue::{Content, Parcel, Waiting};
 use sng_sessions::{Opens, Sessions};
 use sng_standing::Holder;
-use sng_text::{Qos, TopicName};
+use sng_text::Qos;
 use std::alloc::{AllocError, Global};
 
 /// A message of the broker under a topic name.
 #[derive(Drop)]
 pub struct Incoming {
-    pub name: TopicName,
     /// All for whom it comes to wait share it.
-    pub payload: Bytes,
+    pub content: Content,
     pub qos: Qos,
-    pub retain: bool,
     /// The topic id that its name has for each client, where it has one.
     pub fixed: Option<KnownId>,
 }
@@ -60,11 +57,11 @@ pub fn deliver(
     sessions: &Sessions,
     outs: &mut Outs,
 ) -> Result<Vec<Kept>, AllocError>
-    requires { message.now.fixed ≡ fixed_id policy.now message.now.name }
+    requires { message.now.fixed ≡ fixed_id policy.now message.now.content.name }
     ensures outs { OnOk result (outs.new ≡ outs.old ++ all_outs policy.now message.now sessions.now) }
     ensures kept { IfOk result (λ kept. kept.items ≡ all_kept policy.now message.now 0 sessions.now) }
 {
-    let holders = sessions.holders(alloc, &message.name)?;
+    let holders = sessions.holders(alloc, message.content.name())?;
     deliver_each(alloc, policy, message, sessions, holders.as_slice(), outs)
 }
 
@@ -78,18 +75,35 @@ fn deliver_each(
     holders: &[Holder],
     outs: &mut Outs,
 ) -> Result<Vec<Kept>, AllocError>
-    requires fixed { message.now.fixed ≡ fixed_id policy.now message.now.name }
+    requires fixed { message.now.fixed ≡ fixed_id policy.now message.now.content.name }
     requires within { AreWithin sessions.now holders.now }
     ensures outs { OnOk result (outs.new
         ≡ outs.old ++ holders_outs policy.now message.now sessions.now holders.now) }
     ensures kept { IfOk result (λ kept. kept.items
         ≡ holders_kept policy.now message.now sessions.now holders.now) }
 {
-    let mut kept = Vec::new(alloc);
+    // Two outs for most of those who take it at once; for each other one it comes to wait.
+    let free = count_free(sessions, holders);
+    outs.reserve(free.saturating_mul(2))?;
+    let mut kept = Vec::with_capacity(alloc, holders.len() - free)?;
     for holder in holders {
         deliver_to(alloc, policy, message, sessions, *holder, outs, &mut kept)?;
     }
     Ok(kept)
+}
+
+/// How many of these clients take a message as it comes.
+fn count_free(sessions: &Sessions, holders: &[Holder]) -> usize
+    requires { AreWithin sessions.now holders.now }
+    ensures { result ≤ length holders.now }
+{
+    let mut free = 0;
+    for holder in holders {
+        if is_free(sessions, holder.client) {
+            free += 1;
+        }
+    }
+    free
 }
 
 /// The message goes to this client, where it is due messages.
@@ -102,7 +116,7 @@ fn deliver_to(
     outs: &mut Outs,
     kept: &mut Vec<Kept>,
 ) -> Result<(), AllocError>
-    requires fixed { message.now.fixed ≡ fixed_id policy.now message.now.name }
+    requires fixed { message.now.fixed ≡ fixed_id policy.now message.now.content.name }
     requires place { to.client < length sessions.now }
     ensures outs { OnOk result (outs.new ≡ outs.old
         ++ held_outs policy.now message.now (client_at sessions.now to.client) to.qos) }
@@ -140,7 +154,7 @@ fn arrive(
     outs: &mut Outs,
     kept: &mut Vec<Kept>,
 ) -> Result<(), AllocError>
-    requires fixed { arrival.message.now.fixed ≡ fixed_id policy.now arrival.message.now.name }
+    requires fixed { arrival.message.now.fixed ≡ fixed_id policy.now arrival.message.now.content.name }
     requires place { place < length sessions.now }
     ensures outs { OnOk result (outs.new ≡ outs.old
         ++ arrive_outs policy.now (arrived arrival.entry) (client_at sessions.now place)) }
@@ -148,18 +162,14 @@ fn arrive(
         ++ arrive_kept policy.now place (arrived arrival.entry) (client_at sessions.now place)) }
 {
     let id = sessions.id(place);
-    let message = arrival.message;
-    if !Waiting::is_sendable(&message.name, message.payload.as_slice()) {
-        return note_hand(
-            id,
-            &message.name,
-            Outcome::Denied(Denial::Room(RoomDenial::TooLong)),
-            outs,
-        );
+    let content = &arrival.message.content;
+    if !content.is_sendable() {
+        let long = Outcome::Denied(Denial::Room(RoomDenial::TooLong));
+        return note_hand(id, content.name(), long, outs);
     }
     if sessions.queue(place).is_full() {
         let full = Outcome::Denied(Denial::Room(RoomDenial::Full(Place::Queue)));
-        return note_hand(id, &message.name, full, outs);
+        return note_hand(id, content.name(), full, outs);
     }
     if is_free(sessions, place) {
         let opens = turn(alloc, policy, arrival, sessions, place, outs)?;
@@ -187,9 +197,9 @@ fn turn(
     place: usize,
     outs: &mut Outs,
 ) -> Result<Opens, AllocError>
-    requires fixed { arrival.message.now.fixed ≡ fixed_id policy.now arrival.message.now.name }
+    requires fixed { arrival.message.now.fixed ≡ fixed_id policy.now arrival.message.now.content.name }
     requires place { place < length sessions.now }
-    requires sendable { is_sendable arrival.message.now.name arrival.message.now.payload ≡ true }
+    requires sendable { is_sendable arrival.message.now.content.name arrival.message.now.content.payload ≡ true }
     ensures outs { OnOk result (let x = client_at sessions.now place in outs.new ≡ outs.old
         ++ message_outs policy.now x.id x.address x.ids 0 x.number (arrived arrival.entry)) }
     ensures opens { IfOk result (λ opens. let x = client_at sessions.now place in
@@ -202,14 +212,14 @@ fn turn(
         confirming: None,
         number: sessions.number(place),
     };
-    let message = arrival.message;
-    let outcome = receive(alloc, policy, to.id, &message.name)?;
-    let known = known_id(message.fixed, to.ids, None, &message.name);
+    let content = &arrival.message.content;
+    let outcome = receive(alloc, policy, to.id, content.name())?;
+    let known = known_id(arrival.message.fixed, to.ids, None, content.name());
     let mail = Mail {
-        name: &message.name,
-        payload: message.payload.as_slice(),
+        name: content.name(),
+        payload: content.payload(),
         qos: arrival.qos,
-        retain: message.retain,
+        retain: content.retain(),
     };
     take_turn(alloc, to, mail, outcome, known, outs)
 }
@@ -222,7 +232,7 @@ fn keep_opened(
     opens: Opens,
     kept: &mut Vec<Kept>,
 ) -> Result<(), AllocError>
-    requires { is_sendable arrival.message.now.name arrival.message.now.payload ≡ true }
+    requires { is_sendable arrival.message.now.content.name arrival.message.now.content.payload ≡ true }
     ensures { OnOk result (kept.new.items
         ≡ kept.old.items ++ kept_opened place (arrived arrival.entry) opens) }
 {
@@ -241,14 +251,13 @@ fn keep(
     opens: Opens,
     kept: &mut Vec<Kept>,
 ) -> Result<(), AllocError>
-    requires { is_sendable arrival.message.now.name arrival.message.now.payload ≡ true }
+    requires { is_sendable arrival.message.now.content.name arrival.message.now.content.payload ≡ true }
     ensures { OnOk result (kept.new.items ≡ kept.old.items
         ++ (record { place = place; message = arrived arrival.entry; opens = opens }) ∷ []) }
 {
     let Arrival { message, qos } = arrival;
-    let name = message.name.copy()?;
-    let payload = message.payload.clone()?;
-    let message = Parcel::new(alloc, Waiting::new(name, payload, qos, message.retain))?;
+    let content = message.content.share()?;
+    let message = Parcel::new(alloc, Waiting::new(content, qos))?;
     kept.push(Kept {
         place,
         message,

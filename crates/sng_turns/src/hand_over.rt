@@ -2,13 +2,16 @@
 //! turns, the oldest first, until an exchange begins. It is planned with all memory, and carried out without
 //! any.
 ghost use Rattle.std.specs.Prelude.{◌≡◌, ◌≤◌, ◌++◌, length, drop, IfOk, OnOk};
+ghost use Rattle.std.specs.Option.{option_copied};
+ghost use Rattle.sng_grants.specs.Sources.{scope_of};
 ghost use Rattle.sng_turns.specs.HandingOver.{message_outs, message_opens, is_open, hand_outs, hand_plan};
 ghost use Rattle.sng_turns.specs.HandingOver.{gone_outs, id_or_none};
 
 use crate::known::{fixed_id, known_id};
 use crate::turn::{Mail, Recipient, note_hand, take_turn};
 use sng_book::{Denial, Outcome, Outs, PeerDenial};
-use sng_history::receive;
+use sng_grants::Scope;
+use sng_history::receive_by;
 use sng_policy::InForce;
 use sng_queue::{Queue, Waiting};
 use sng_sessions::{Handed, Opens};
@@ -33,20 +36,21 @@ pub fn hand_over(
         ≡ hand_plan policy.now to.entry.id.now to.entry.ids.now (id_or_none to.entry.confirming) first
         (drop first queue.now.waiting)) }
 {
-    for place in first..queue.len() {
-        let Some(message) = queue.at(place) else {
-            unreachable!();
-        };
-        let opens = turn(alloc, policy, to, message, outs)?;
+    let scope = policy.scope(to.id);
+    let mut place = first;
+    let mut messages = queue.iter_from(first);
+    while let Some(message) = messages.next() {
+        let opens = turn(alloc, policy, scope, to, message, outs)?;
         if is_open(&opens) {
             return Ok(Handed {
                 settled: place,
                 opens,
             });
         }
+        place += 1;
     }
     Ok(Handed {
-        settled: queue.len(),
+        settled: place,
         opens: Opens::Nothing,
     })
 }
@@ -62,14 +66,16 @@ pub fn is_open(opens: &Opens) -> bool
     }
 }
 
-/// The turn of one that waits.
+/// The turn of one that waits for the client, which has this scope.
 fn turn(
     alloc: Global,
     policy: &InForce,
+    scope: Option<&Scope>,
     to: Recipient<'_>,
     message: &Waiting,
     outs: &mut Outs,
 ) -> Result<Opens, AllocError>
+    requires { option_copied scope ≡ scope_of policy.now.clients to.id.now }
     ensures outs { OnOk result (outs.new ≡ outs.old
         ++ message_outs policy.now to.entry.id.now to.entry.address to.entry.ids.now
         (id_or_none to.entry.confirming) to.entry.number message.now) }
@@ -78,7 +84,7 @@ fn turn(
         message.now) }
 {
     let name = message.name();
-    let outcome = receive(alloc, policy, to.id, name)?;
+    let outcome = receive_by(alloc, scope, to.id, name)?;
     let known = known_id(fixed_id(policy, name), to.ids, to.confirming, name);
     let mail = Mail {
         name,
@@ -93,10 +99,7 @@ fn turn(
 pub fn all_gone(id: &ClientId, queue: &Queue, outs: &mut Outs) -> Result<(), AllocError>
     ensures { OnOk result (outs.new ≡ outs.old ++ gone_outs id.now queue.now.waiting) }
 {
-    for place in 0..queue.len() {
-        let Some(message) = queue.at(place) else {
-            unreachable!();
-        };
+    for message in queue.iter() {
         note_hand(
             id,
             message.name(),

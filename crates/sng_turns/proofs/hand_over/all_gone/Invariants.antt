@@ -1,7 +1,7 @@
-use Rattle.std.proofs.Common.{◌≡◌, ◌++◌, drop}
+use Rattle.std.proofs.Common.{◌≡◌, ◌++◌}
 use Rattle.sng_turns.specs.HandingOver.{gone_outs}
 use Rattle.sng_turns.proofs.hand_over.all_gone.Given as goal
 
-abbrev pub invariant-loop-place : goal.invariant-loop-place
-invariant-loop-place l =
-    l.outs ++ gone_outs l.id (drop l.place l.queue.waiting) ≡ l.initial.outs ++ gone_outs l.id l.queue.waiting
+abbrev pub invariant-loop-message : goal.invariant-loop-message
+invariant-loop-message l =
+    l.outs ++ gone_outs l.id l.message-iterator ≡ l.initial.outs ++ gone_outs l.id l.queue.waiting

@@ -6,9 +6,7 @@ pub invariant_of-result : goal.invariant_of-result
 invariant_of-result c =
     let names : c.in_ok-names.names ≡ c.self.inside.names =
     entries_from_clone _ _ (λ x y is. is) (λ v w is. is) _ _ c.in_ok-names.ensures.cases in
-    let ids : c.in_ok-ids.ids.entries ≡ c.self.inside.ids.entries =
-    entries_from_clone _ _ (λ x y is. is) (λ v w is. is) _ _ c.in_ok-ids.ensures.cases in
-    (rw names c.self.invariant.0, λ name. rw (names, ids) (c.self.invariant.1 name))
+    (rw names c.self.invariant.0, λ name. rw names (c.in_ok-ids.ensures name ∙ c.self.invariant.1 name))
 
 pub returns : goal.returns
 returns c =

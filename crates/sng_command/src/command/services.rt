@@ -2,7 +2,9 @@
 
 use crate::command::{with, with_word};
 use clap::{Arg, ArgAction, ArgMatches, Command, value_parser};
-use sng_serve::{MAX_FLOOD, MAX_WORKERS, MIN_FLOOD, MIN_WORKERS, USUAL_METRICS, Words};
+use sng_config::{MAX_FLOOD, MAX_WORKERS, MIN_FLOOD, MIN_WORKERS};
+use sng_metrics::USUAL_METRICS;
+use sng_operator::Words;
 use std::alloc::{AllocError, Global};
 
 /// The program's command with those of this module.

@@ -1,6 +1,6 @@
 //! The filters among the words of `sng cover ..`.
 ghost use Rattle.std.specs.Prelude.{◌≡◌, drop, position};
-ghost use Rattle.sng.specs.Words.{filters_of, is_escape};
+ghost use Rattle.sng_command.specs.Words.{filters_of, is_escape};
 
 use sng_text::Octets;
 

@@ -14,8 +14,8 @@ use clap::{Arg, ArgMatches, Command, Error};
 pub use escape::filters_among;
 pub use examples::example_of;
 pub use questions::{MayWords, PolicyWords};
+use sng_operator::{VERSION, Words as ServeWords};
 use sng_script::Status;
-use sng_serve::{VERSION, Words as ServeWords};
 use std::alloc::{AllocError, Global};
 
 /// What the command line asks for.
