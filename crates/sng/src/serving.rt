@@ -1,6 +1,6 @@
 //! `sng serve ..`, `sng status ..` and `sng broker ..`.
 ghost use Rattle.std.specs.Prelude.{◌≡◌};
-ghost use Rattle.sng_serve.specs.Askings.{IsWell};
+ghost use Rattle.sng_status.specs.Askings.{IsWell};
 
 use crate::file::{first_no_text, report_word};
 use sng_script::Status;
@@ -51,7 +51,7 @@ pub fn status<R: Clock + Net + Print + Eprint + AllocGlobal>(
 {
     match first_no_text(words) {
         Some(place) => report_word(rt, place),
-        None => sng_serve::status(rt, address),
+        None => sng_status::status(rt, address),
     }
 }
 
@@ -63,6 +63,6 @@ pub fn broker<R: Wait + Net + Print + Eprint + AllocGlobal>(
 ) -> Status {
     match first_no_text(words) {
         Some(place) => report_word(rt, place),
-        None => sng_serve::broker(rt, listen),
+        None => sng_test_broker::broker(rt, listen),
     }
 }

@@ -122,6 +122,11 @@ publish_by policy room x id_type id (Denied rule) = unread rule
 abbrev pub publish_judged : Policy → Outcome → Client → TopicIdType → ℕ → Judged
 publish_judged policy room x id_type id = publish_by policy room x id_type id (may_ask policy x)
 
+-- what is sent to this address, where there is a datagram for it
+abbrev pub sent_to : Address → Option (List ℕ) → List Out
+sent_to to None = []
+sent_to to (Some datagram) = Send to datagram ∷ []
+
 -- the PUBACK
 abbrev pub publish_reply : Address → Publish → Outcome → List Out
 publish_reply to p Allowed = puback to p p.flags.qos

@@ -1,6 +1,7 @@
 //! A CONNECT (MQTT-SN 1.2, 5.4.4, 6.2, 6.3 and 6.14): what it lets out is planned first, and the last call
 //! that can fail comes before the first change.
 ghost use Rattle.std.specs.Prelude.{◌≡◌, ◌<◌, ◌-◌, ◌∷◌, ◌++◌, [], ℕ, suc, length, IfSome, IfOk, OnOk, OnErr};
+ghost use Rattle.sng_history.specs.Answers.{welcome};
 ghost use Rattle.sng_history.specs.Causes.{ByConnect};
 ghost use Rattle.sng_history.specs.Good.{Good};
 ghost use Rattle.sng_history.specs.Steps.{outs_by, next_by};
@@ -140,17 +141,16 @@ fn entering(
     ensures plan { IfOk result (λ handed. handed
         ≡ own_plan policy.now connect.now (at_place sessions.now place)) }
 {
-    let welcome = welcome(alloc, connect, from)?;
     let Some(place) = place else {
-        outs.push(welcome)?;
+        push_welcome(alloc, connect, from, outs)?;
         return Ok(nothing_handed());
     };
     if connect.flags.clean {
         all_gone(&connect.client_id, sessions.queue(place), outs)?;
-        outs.push(welcome)?;
+        push_welcome(alloc, connect, from, outs)?;
         return Ok(nothing_handed());
     }
-    outs.push(welcome)?;
+    push_welcome(alloc, connect, from, outs)?;
     if connect.flags.will {
         return Ok(nothing_handed());
     }
@@ -164,6 +164,19 @@ fn entering(
     };
     let handed = hand_over(alloc, policy, to, sessions.queue(place), 0, outs)?;
     Ok(handed)
+}
+
+/// What answers a CONNECT that is accepted, behind the others.
+fn push_welcome(
+    alloc: Global,
+    connect: &Connect,
+    from: Address,
+    outs: &mut Outs,
+) -> Result<(), AllocError>
+    ensures { OnOk result (outs.new ≡ outs.old ++ welcome connect.now from ∷ []) }
+{
+    outs.push(welcome(alloc, connect, from)?)?;
+    Ok(())
 }
 
 /// The CONNECT is accepted, and a hand-over to the client at this place is carried out. An `Err` is a failed

@@ -71,27 +71,27 @@ pub fn unsupported(
     ensures next { OnOk result (sessions.new ≡ moved_at place (heard_at clock) sessions.old) }
     ensures err { OnErr result (sessions.new ≡ sessions.old) }
 {
-    let outs = unsupported_outs(alloc, message, sessions, place)?;
+    let outs = unsupported_outs(alloc, &message, sessions, place)?;
     sessions.hear(place, clock);
     Ok(outs)
 }
 
 fn unsupported_outs(
     alloc: Global,
-    message: SnFrame,
+    message: &SnFrame,
     sessions: &Sessions,
     place: usize,
 ) -> Result<OutsPair, AllocError>
     requires { place < length sessions.now }
-    ensures { IfOk result (λ outs. outs ≡ unsupported_outs message (client_at sessions.now place)) }
+    ensures { IfOk result (λ outs. outs ≡ unsupported_outs message.now (client_at sessions.now place)) }
 {
-    let who = Who::Client(sessions.id(place).copy()?);
     let mut outs = Outs::with_capacity(alloc, 2)?;
-    outs.push(Out::Note(denied_note(&message, who, Denial::Form(FormDenial::NotSupported))))?;
+    let who = Who::Client(sessions.id(place).copy()?);
+    outs.push(Out::Note(denied_note(message, who, Denial::Form(FormDenial::NotSupported))))?;
     refused(
         alloc,
         sessions.address(place),
-        &message,
+        message,
         &Denial::Form(FormDenial::NotSupported),
         &mut outs,
     )?;

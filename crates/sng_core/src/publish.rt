@@ -1,19 +1,18 @@
 //! A PUBLISH of a client at QoS 0 or 1 (MQTT-SN 1.2, 5.4.12, 5.4.13 and 6.6): what is let out is planned
 //! first, with the room for what comes to wait, and what changes cannot fail.
 ghost use Rattle.std.specs.Prelude.{◌≡◌, ◌<◌, ◌∷◌, ◌++◌, [], length, Some, IfOk, OnOk, OnErr};
-ghost use Rattle.std.specs.Prelude.{option_to_list};
 ghost use Rattle.sng_frames.specs.Writing.{written};
 ghost use Rattle.sng_history.specs.Answers.{puback};
 ghost use Rattle.sng_history.specs.State.{qos_of};
 ghost use Rattle.sng_history.specs.Verdicts.{name_in};
-ghost use Rattle.sng_core.specs.Forms.{client_at, publish_judged};
+ghost use Rattle.sng_core.specs.Forms.{client_at, publish_judged, sent_to};
 ghost use Rattle.sng_core.specs.Forms.{publish_named, publish_reply, publish_noted, publication_by};
 ghost use Rattle.sng_core.specs.Forms.{carried_outs, carried};
 
 use crate::answers::code_of;
 use crate::parts::Parts;
 use crate::verdict::{Judged, and_then, client_name, copy_name, may_ask, unread};
-use sng_book::{Address, Decision, Denial, Out, Outcome, Outs, OutsPair, Who};
+use sng_book::{Address, Decision, Denial, Out, Outcome, OutsPair, Who};
 use sng_frames::{
     FrameQos, Publish, ReturnCode, SnFrame, TopicAck, TopicIdType, write_publish_ack,
 };
@@ -145,39 +144,45 @@ fn noted(
     ensures { IfOk result (λ outs. outs
         ≡ publish_noted publish.now (client_at sessions.now place) judged.now) }
 {
-    let who = Who::Client(sessions.id(place).copy()?);
-    let name = copy_name(&judged.name)?;
-    let outcome = judged.outcome.copy()?;
-    let note = Out::Note(Decision::Publish(who, name, outcome));
-    match reply(alloc, publish, sessions.address(place), &judged.outcome)? {
-        Some(reply) => OutsPair::two(alloc, note, reply),
+    let to = sessions.address(place);
+    let reply = reply(alloc, publish, &judged.outcome)?;
+    let note = ask_noted(sessions, place, judged)?;
+    match reply {
+        Some(datagram) => OutsPair::two(alloc, note, Out::Send(to, datagram)),
         None => OutsPair::one(alloc, note),
     }
 }
 
+/// The note of an ask to publish, of the client at this place.
+pub fn ask_noted(sessions: &Sessions, place: usize, judged: &Judged) -> Result<Out, AllocError>
+    requires { place < length sessions.now }
+    ensures { IfOk result (λ out. out ≡ Out.Note (Decision.Publish
+        (Who.Client (client_at sessions.now place).id) judged.now.name judged.now.outcome)) }
+{
+    let who = Who::Client(sessions.id(place).copy()?);
+    let name = copy_name(&judged.name)?;
+    let outcome = judged.outcome.copy()?;
+    Ok(Out::Note(Decision::Publish(who, name, outcome)))
+}
+
 /// The PUBACK: at QoS 1, and wherever the publish is refused.
-fn reply(
-    alloc: Global,
-    publish: &Publish,
-    to: Address,
-    outcome: &Outcome,
-) -> Result<Option<Out>, AllocError>
-    ensures { IfOk result (λ reply. option_to_list reply ≡ publish_reply to publish.now outcome.now) }
+fn reply(alloc: Global, publish: &Publish, outcome: &Outcome) -> Result<Option<Octets>, AllocError>
+    ensures { (to : Address) → IfOk result (λ reply. sent_to to reply
+        ≡ publish_reply to publish.now outcome.now) }
 {
     match outcome {
-        Outcome::Allowed => puback(alloc, to, publish),
-        Outcome::Denied(rule) => Ok(Some(puback_with(alloc, to, publish, code_of(rule))?)),
+        Outcome::Allowed => puback(alloc, publish),
+        Outcome::Denied(rule) => Ok(Some(puback_with(alloc, publish, code_of(rule))?)),
     }
 }
 
 /// The PUBACK of a publish that is allowed, at QoS 1 alone.
-fn puback(alloc: Global, to: Address, publish: &Publish) -> Result<Option<Out>, AllocError>
-    ensures { IfOk result (λ reply. option_to_list reply ≡ puback to publish.now publish.now.flags.qos) }
+fn puback(alloc: Global, publish: &Publish) -> Result<Option<Octets>, AllocError>
+    ensures { (to : Address) → IfOk result (λ reply. sent_to to reply
+        ≡ puback to publish.now publish.now.flags.qos) }
 {
     match publish.flags.qos {
-        FrameQos::AtLeastOnce => {
-            Ok(Some(puback_with(alloc, to, publish, ReturnCode::ACCEPTED)?))
-        }
+        FrameQos::AtLeastOnce => Ok(Some(puback_with(alloc, publish, ReturnCode::ACCEPTED)?)),
         FrameQos::AtMostOnce => Ok(None),
         FrameQos::ExactlyOnce => Ok(None),
         FrameQos::WithoutSession => Ok(None),
@@ -185,14 +190,9 @@ fn puback(alloc: Global, to: Address, publish: &Publish) -> Result<Option<Out>, 
 }
 
 /// The PUBACK with the publish's TopicId and MsgId and this code.
-fn puback_with(
-    alloc: Global,
-    to: Address,
-    publish: &Publish,
-    code: ReturnCode,
-) -> Result<Out, AllocError>
-    ensures { IfOk result (λ out. out ≡ Out.Send to (written (SnFrame.PublishAck
-        (record { topic_id = publish.now.topic_id; msg_id = publish.now.msg_id; code = code })))) }
+pub fn puback_with(alloc: Global, publish: &Publish, code: ReturnCode) -> Result<Octets, AllocError>
+    ensures { IfOk result (λ datagram. datagram ≡ written (SnFrame.PublishAck
+        (record { topic_id = publish.now.topic_id; msg_id = publish.now.msg_id; code = code }))) }
 {
     let ack = TopicAck {
         topic_id: publish.topic_id,
@@ -200,22 +200,7 @@ fn puback_with(
         code,
     };
     let datagram = write_publish_ack(alloc, ack)?;
-    Ok(Out::Send(to, Octets::from(datagram)))
-}
-
-/// The same behind what is let out before.
-pub fn puback_of(
-    alloc: Global,
-    to: Address,
-    publish: &Publish,
-    code: ReturnCode,
-    outs: &mut Outs,
-) -> Result<(), AllocError>
-    ensures { OnOk result (outs.new ≡ outs.old ++ Out.Send to (written (SnFrame.PublishAck
-        (record { topic_id = publish.now.topic_id; msg_id = publish.now.msg_id; code = code }))) ∷ []) }
-{
-    outs.push(puback_with(alloc, to, publish, code)?)?;
-    Ok(())
+    Ok(Octets::from(datagram))
 }
 
 /// The publish that was asked for, where it was allowed. An `Err` is a failed allocation.

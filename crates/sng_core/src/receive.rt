@@ -2,6 +2,7 @@
 //! 5.4.14 and 6.6; MQTT 3.1.1, 4.3.3): what is let out is planned first, with the room for what comes to
 //! wait, and what changes cannot fail.
 ghost use Rattle.std.specs.Prelude.{◌≡◌, ◌<◌, ◌∷◌, ◌++◌, [], false, length, Some, IfOk, OnOk, OnErr};
+ghost use Rattle.sng_frames.specs.Writing.{written};
 ghost use Rattle.sng_history.specs.Answers.{pubrec, pubcomp};
 ghost use Rattle.sng_history.specs.Verdicts.{is_repeat, once_room};
 ghost use Rattle.sng_sessions.specs.Moving.{moved_at};
@@ -13,12 +14,10 @@ ghost use Rattle.sng_core.specs.Receiving.{once_next, released_outs};
 use crate::answers::{code_of, only};
 use crate::messages::denied_frame;
 use crate::parts::Parts;
-use crate::publish::{judged, puback_of, publication};
-use crate::verdict::{Judged, copy_name};
-use sng_book::{
-    Address, Decision, Denial, FormDenial, Out, Outcome, Outs, OutsPair, Place, RoomDenial, Who,
-};
-use sng_frames::{Publish, write_publish_complete, write_publish_received};
+use crate::publish::{ask_noted, judged, puback_with, publication};
+use crate::verdict::Judged;
+use sng_book::{Address, Denial, FormDenial, Out, Outcome, OutsPair, Place, RoomDenial};
+use sng_frames::{Publish, SnFrame, write_publish_complete, write_publish_received};
 use sng_sessions::{Change, Sessions};
 use sng_text::{Octets, Qos};
 use std::alloc::{AllocError, Global};
@@ -109,38 +108,20 @@ fn noted(
     ensures { IfOk result (λ outs. outs
         ≡ once_noted publish.now (client_at sessions.now place) judged.now) }
 {
-    let who = Who::Client(sessions.id(place).copy()?);
-    let name = copy_name(&judged.name)?;
-    let outcome = judged.outcome.copy()?;
-    let mut outs = Outs::with_capacity(alloc, 2)?;
-    outs.push(Out::Note(Decision::Publish(who, name, outcome)))?;
-    reply(
-        alloc,
-        publish,
-        sessions.address(place),
-        &judged.outcome,
-        &mut outs,
-    )?;
-    let outs = OutsPair::of(alloc, outs)?;
-    Ok(outs)
+    let to = sessions.address(place);
+    let datagram = reply(alloc, publish, &judged.outcome)?;
+    let note = ask_noted(sessions, place, judged)?;
+    OutsPair::two(alloc, note, Out::Send(to, datagram))
 }
 
 /// The PUBREC where the publish is allowed, and the PUBACK where it is refused.
-fn reply(
-    alloc: Global,
-    publish: &Publish,
-    to: Address,
-    outcome: &Outcome,
-    outs: &mut Outs,
-) -> Result<(), AllocError>
-    ensures { OnOk result (outs.new ≡ outs.old ++ once_reply to publish.now outcome.now) }
+fn reply(alloc: Global, publish: &Publish, outcome: &Outcome) -> Result<Octets, AllocError>
+    ensures { (to : Address) → IfOk result (λ datagram. Out.Send to datagram ∷ []
+        ≡ once_reply to publish.now outcome.now) }
 {
     match outcome {
-        Outcome::Allowed => {
-            outs.push(pubrec(alloc, to, publish.msg_id)?)?;
-            Ok(())
-        }
-        Outcome::Denied(rule) => puback_of(alloc, to, publish, code_of(rule), outs),
+        Outcome::Allowed => received(alloc, publish.msg_id),
+        Outcome::Denied(rule) => puback_with(alloc, publish, code_of(rule)),
     }
 }
 
@@ -148,8 +129,15 @@ fn reply(
 fn pubrec(alloc: Global, to: Address, msg_id: u16) -> Result<Out, AllocError>
     ensures { IfOk result (λ out. out ≡ pubrec to msg_id) }
 {
+    Ok(Out::Send(to, received(alloc, msg_id)?))
+}
+
+/// Its datagram.
+fn received(alloc: Global, msg_id: u16) -> Result<Octets, AllocError>
+    ensures { IfOk result (λ datagram. datagram ≡ written (SnFrame.PublishReceived msg_id)) }
+{
     let datagram = write_publish_received(alloc, msg_id)?;
-    Ok(Out::Send(to, Octets::from(datagram)))
+    Ok(Octets::from(datagram))
 }
 
 /// The PUBCOMP with this MsgId (5.4.14).

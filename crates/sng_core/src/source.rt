@@ -53,8 +53,7 @@ impl Parts {
         let origin = Origin::Source(source);
         let verdict = self.verdict(alloc, &origin, &name, Qos::AtMostOnce)?;
         let is_allowed = verdict.is_allowed();
-        let asked = Decision::Publish(Who::Source(source), Some(name.copy()?), verdict);
-        let outs = only(alloc, Out::Note(asked))?;
+        let outs = asked_outs(alloc, source, &name, verdict)?;
         if is_allowed {
             self.link.room(1)?;
             let retain = publish.flags.retain;
@@ -69,6 +68,23 @@ impl Parts {
         }
         Ok(outs)
     }
+}
+
+/// A source asked for a publish under this name.
+fn asked_outs(
+    alloc: Global,
+    source: [u8; 4],
+    name: &TopicName,
+    verdict: Outcome,
+) -> Result<OutsPair, AllocError>
+    ensures { IfOk result (λ outs. outs
+        ≡ Out.Note (Decision.Publish (Who.Source source) (Some name.now) verdict) ∷ []) }
+{
+    let name = name.copy()?;
+    only(
+        alloc,
+        Out::Note(Decision::Publish(Who::Source(source), Some(name), verdict)),
+    )
 }
 
 /// An ask to publish is denied before a name was read.

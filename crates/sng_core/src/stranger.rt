@@ -6,7 +6,7 @@ ghost use Rattle.sng_core.specs.Requesting.{asked};
 
 use crate::answers::{denied_note, dismissed, only};
 use crate::request::SessionRequest;
-use sng_book::{Address, Decision, Denial, FormDenial, Out, Outcome, Outs, OutsPair, Who};
+use sng_book::{Address, Decision, Denial, FormDenial, Out, Outcome, OutsPair, Who};
 use std::alloc::{AllocError, Global};
 
 /// It is noted as what it asks for, and answered by DISCONNECT. One that is not taken is noted alone.
@@ -55,9 +55,6 @@ pub fn stranger(
 fn dismiss(alloc: Global, from: Address, note: Decision) -> Result<OutsPair, AllocError>
     ensures { IfOk result (λ outs. outs ≡ Out.Note note ∷ dismissed from ∷ []) }
 {
-    let mut outs = Outs::with_capacity(alloc, 2)?;
-    outs.push(Out::Note(note))?;
-    outs.push(dismissed(alloc, from)?)?;
-    let outs = OutsPair::of(alloc, outs)?;
-    Ok(outs)
+    let answer = dismissed(alloc, from)?;
+    OutsPair::two(alloc, Out::Note(note), answer)
 }

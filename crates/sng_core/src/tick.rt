@@ -19,11 +19,11 @@ ghost use Rattle.sng_core.specs.Dues.{due_clients, due_link, dues_clients, dues_
 ghost use Rattle.sng_core.specs.Dues.{ticked_outs, ticked_next, due_list, wills_kept, items_of, all_items};
 ghost use Rattle.sng_core.specs.Dues.{pings_due};
 ghost use Rattle.sng_link.specs.Rooms.{HasPlaces};
-ghost use Rattle.sng_core.specs.Ending.{ending_outs, ending_next};
+ghost use Rattle.sng_core.specs.Ending.{ending_outs, ending_next, outs_behind, room_behind_ends};
 
 use crate::parts::Parts;
 use sng_book::{Decision, Out, Outcome, Outs, OutsPair, ReservedOuts, Who};
-use sng_endings::{end_all, endings, room_after};
+use sng_endings::{SubscriptionEnd, end_all, endings, room_after};
 use sng_grants::Limits;
 use sng_link::{Link, Room};
 use sng_outbox::{Origin, Publication};
@@ -49,6 +49,13 @@ pub enum Due {
     Lost(LostClient),
     /// What is open with the client at the place was not answered in time.
     Unanswered(usize, Retried),
+}
+
+/// What is due behind what ends, and what is let out for it.
+#[derive(Debug, Drop)]
+struct DuesBehind {
+    dues: Vec<Due>,
+    outs: Outs,
 }
 
 impl Parts {
@@ -99,20 +106,10 @@ impl Parts {
         let policy = self.policy.left(clock)?;
         let limits = policy.limits();
         let endings = endings(alloc, &self.policy, &policy, &self.sessions)?;
-        let mut room = room_after(
-            alloc,
-            endings.as_slice(),
-            limits,
-            &self.sessions,
-            &self.link,
-        )?;
-        let mut outs = Outs::new(alloc);
-        let sessions = &self.sessions;
-        let dues = dues(alloc, &policy, clock, sessions, &mut room, &mut outs)?;
         let is_due = self.link.is_ping_due(self.is_up, clock);
-        note_ping(is_due, room, &mut outs)?;
-        let mut all = room_for(alloc, endings.len(), outs.len())?;
-        let again = outs.copy(alloc)?;
+        let ended = endings.as_slice();
+        let DuesBehind { dues, outs } = self.dues_behind(alloc, clock, &policy, ended, is_due)?;
+        let (mut all, again) = room_with(alloc, endings.len(), &outs)?;
         make_room(&mut self.link, endings.len(), dues.as_slice(), is_due)?;
         end_all(
             endings,
@@ -128,6 +125,29 @@ impl Parts {
         self.policy = policy;
         self.clock = clock;
         Ok(all.into_pair())
+    }
+
+    /// What is due once these have ended, and what is let out for that, with the note of a PINGREQ that is due
+    /// and finds no place.
+    fn dues_behind(
+        &self,
+        alloc: Global,
+        clock: u64,
+        policy: &InForce,
+        endings: &[SubscriptionEnd],
+        is_due: bool,
+    ) -> Result<DuesBehind, AllocError>
+        ensures outs { IfOk result (λ behind. behind.outs
+            ≡ outs_behind self.now policy.now clock endings.now is_due) }
+        ensures dues { IfOk result (λ behind. behind.dues.items
+            ≡ dues_plan policy.now clock (room_behind_ends self.now policy.now endings.now) 0 self.now.clients) }
+    {
+        let sessions = &self.sessions;
+        let mut room = room_after(alloc, endings, policy.limits(), sessions, &self.link)?;
+        let mut outs = Outs::new(alloc);
+        let dues = dues(alloc, policy, clock, sessions, &mut room, &mut outs)?;
+        note_ping(is_due, room, &mut outs)?;
+        Ok(DuesBehind { dues, outs })
     }
 
     /// The clock comes to this time, by which no scope ends.
@@ -151,6 +171,17 @@ impl Parts {
         self.clock = clock;
         Ok(outs)
     }
+}
+
+/// Room for what so many endings let out, and for these outs behind it, and an equal list of them.
+fn room_with(alloc: Global, endings: usize, outs: &Outs) -> Result<(ReservedOuts, Outs), AllocError>
+    ensures outs { IfOk result (λ room. room.0.outs ≡ []) }
+    ensures room { IfOk result (λ room. endings * 2 + length outs.now ≤ room.0.spare) }
+    ensures again { IfOk result (λ room. room.1 ≡ outs.now) }
+{
+    let room = room_for(alloc, endings, outs.len())?;
+    let again = outs.copy(alloc)?;
+    Ok((room, again))
 }
 
 /// Room for what so many endings let out, two outs each, and for so many more.

@@ -1,3 +1,1 @@
 pub mod VisitLemmas
-pub mod AskingLemmas
-pub mod Reaches

@@ -3,12 +3,12 @@ ghost use Rattle.std.specs.Prelude.{◌≡◌, ◌≢◌, ◌≤◌, ◌<◌, �
 ghost use Rattle.sng_desk.specs.declared.source.Got.TheVariants.{Ended as ended_answer};
 ghost use Rattle.sng_desk.specs.declared.source.Got.TheVariants.{Failed as failed_answer};
 
-use crate::bell::Ear;
 use crate::hub::Hub;
-use crate::level::Level;
 use sng_bounds::drift::Drift;
 use sng_bounds::unix_clock::UnixClock;
 use sng_desk::{Beats, Got};
+use sng_signals::bell::Ear;
+use sng_signals::level::Level;
 use std::rt::Clock;
 use std::sync::Wait;
 use std::time::Duration;

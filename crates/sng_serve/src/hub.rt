@@ -1,19 +1,19 @@
 //! What all workers of a running gateway share beside the desk: whether they are to stop, and how those that
 //! wait are woken.
 
-use crate::backlog::Backlog;
-use crate::bell::Bell;
-use crate::board::Board;
-use crate::count::Count;
 use crate::handover::Handover;
-use crate::level::Level;
-use crate::listening::Listening;
 use crate::shelf::Shelf;
-use crate::token::Token;
 use sng_bounds::answers::Answers;
 use sng_bounds::flood::Flood;
 use sng_operator::ends::Halt;
 use sng_operator::verbosity::Verbosity;
+use sng_signals::backlog::Backlog;
+use sng_signals::bell::Bell;
+use sng_signals::board::Board;
+use sng_signals::count::Count;
+use sng_signals::level::Level;
+use sng_signals::listening::Listening;
+use sng_signals::token::Token;
 use std::alloc::Global;
 use std::fmt::Display;
 use std::sync::atomic::{AtomicBool, AtomicU8, AtomicU64, Ordering};

@@ -1,33 +1,24 @@
 //! The gateway between devices and a broker: sockets, a clock, standard input and the desk's workers at them.
 #![tactic(auto)]
 
-pub mod asking;
-pub mod backlog;
 pub mod beats;
 pub mod beginning;
-pub mod bell;
-pub mod board;
 mod book_end;
 mod closing;
-pub mod count;
 mod descriptors;
 pub mod figures;
 mod finishing;
 pub mod handover;
 pub mod hub;
 pub mod keeping;
-pub mod level;
 pub mod limits;
 pub mod link;
-pub mod listening;
 pub mod opening;
 pub mod patient;
 mod policies;
 mod policy_source;
 mod preparing;
 mod printing;
-pub mod question;
-pub mod reach;
 pub mod reception;
 mod refusal;
 mod reports;
@@ -37,23 +28,15 @@ pub mod serving;
 pub mod shelf;
 mod show_status;
 pub mod socket;
-mod stamp;
 mod streams;
 pub mod switch;
-mod tell;
-mod test_client;
-pub mod testing;
-pub mod token;
 pub mod tray;
 mod udp_calls;
 pub mod visit;
 mod watch;
 mod wire;
-mod writers;
 
-pub use asking::status;
 pub use limits::{FULL_ROWS, MAX_VISITORS, NEARLY_FULL_ROWS, VISIT_MS, VOLUME_ROWS};
 pub use serving::serve;
 pub use sng_config::{MAX_FLOOD, MAX_WORKERS, MIN_FLOOD, MIN_WORKERS};
 pub use sng_operator::{End, VERSION, Words};
-pub use testing::broker;

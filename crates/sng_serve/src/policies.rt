@@ -10,7 +10,6 @@ ghost use Rattle.sng_desk.specs.declared.source.Got.TheVariants.{Failed as faile
 ghost use Rattle.sng_desk.specs.declared.source.Got.TheVariants.{Nothing as nothing_answer};
 
 use crate::hub::Hub;
-use crate::level::Level;
 use crate::patient::PatientInput;
 use crate::policy_source::PolicySource;
 use crate::reports::tell_report;
@@ -23,6 +22,7 @@ use sng_operator::lists::Lists;
 use sng_scope::PolicyFault;
 use sng_script::input::read_line;
 use sng_script::refused::push_refused;
+use sng_signals::level::Level;
 use sng_text::Octets;
 use std::rt::{Clock, Files};
 use std::str;

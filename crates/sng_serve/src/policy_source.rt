@@ -2,10 +2,10 @@
 //! is watched by itself: once it has changed, and has been the same for a second.
 
 use crate::hub::Hub;
-use crate::level::Level;
 use crate::patient::InputWatch;
 use sng_operator::file_look::{FileLook, FileState};
 use sng_operator::policy_file::{file_text, state_of};
+use sng_signals::level::Level;
 use std::io::{Error, ErrorKind};
 use std::rt::{Clock, Files};
 use std::time::Duration;

@@ -3,7 +3,6 @@
 use crate::beats::unix_clock;
 use crate::beginning::{Beginning, FirstEnd, begin};
 use crate::hub::Hub;
-use crate::level::Level;
 use crate::limits::{FULL_ROWS, KEPT_VOLUME_ROOM};
 use crate::opening::NotBegun;
 use crate::tray::Tray;
@@ -14,6 +13,7 @@ use sng_operator::ask::Ask;
 use sng_operator::lists::Lists;
 use sng_operator::roles::OTHERS;
 use sng_scope::read_policy;
+use sng_signals::level::Level;
 use sng_times::Time;
 use std::alloc::Global;
 use std::rt::Clock;

@@ -7,16 +7,16 @@ ghost use Rattle.std.specs.Duration.{as_nanos};
 ghost use Rattle.sng_serve.specs.Visits.{HadTurns, HasComeTo, HaveCome, IsRound, IsTurn, IsWithin, is_over};
 ghost use Rattle.sng_serve.specs.declared.limits.TheConstants.{MAX_VISITORS};
 
-use crate::bell::{Bell, Ear};
 use crate::figures::Front;
 use crate::hub::Hub;
-use crate::level::Level;
 use crate::limits::{MAX_VISITORS, VISIT_MS};
 use crate::printing::Shown;
 use crate::visit::Visit;
 use mio::net::TcpListener;
 use mio::{Interest, Token};
 use sng_desk::Desk;
+use sng_signals::bell::{Bell, Ear};
+use sng_signals::level::Level;
 use std::alloc::Global;
 use std::io::ErrorKind;
 use std::net::{Net, SocketAddr};

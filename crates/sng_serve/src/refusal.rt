@@ -1,11 +1,11 @@
 //! Why nothing is served, as whoever started it is told.
 
-use crate::level::Level;
 use crate::opening::NotBegun;
-use crate::tell::tell;
 use sng_operator::ask::Fault;
 use sng_script::Status;
 use sng_script::ending::ended;
+use sng_signals::level::Level;
+use sng_signals::tell::tell;
 use std::io;
 use std::io::Write;
 

@@ -1,9 +1,9 @@
 //! What an operator is told of a policy text: the faults and the warnings of `sng policy`.
 
 use crate::hub::Hub;
-use crate::level::Level;
 use sng_questions::report::report_of;
 use sng_script::Status;
+use sng_signals::level::Level;
 use std::alloc::AllocError;
 use std::str;
 

@@ -7,7 +7,6 @@ use crate::descriptors::{EMPTY, hold};
 use crate::finishing::{Ran, Settled, finish};
 use crate::hub::Hub;
 use crate::keeping::{Keeper, keep};
-use crate::level::Level;
 use crate::link::BrokerLink;
 use crate::opening::{
     Ears, FolderKeeper, NotBegun, ServingCrew, Shared, Watchers, crew_of, make_shared, open,
@@ -21,9 +20,7 @@ use crate::reception::{Reception, start_reception};
 use crate::refusal::{report, report_start};
 use crate::socket::Socket;
 use crate::switch::Switch;
-use crate::tell::tell;
 use crate::tray::Tray;
-use crate::writers::{ERRORS_PATIENCE_MS, wait_for};
 use sng_archive::Device;
 use sng_crew::{Crew, Ended, NotStarted, Upstream, run_workers};
 use sng_desk::{Beats, Datagrams, Desk, Filing, Gate, Piece, Policies, Volume};
@@ -33,6 +30,9 @@ use sng_operator::ends::End;
 use sng_operator::roles::Roles;
 use sng_operator::verbosity::Verbosity;
 use sng_script::Status;
+use sng_signals::level::Level;
+use sng_signals::tell::tell;
+use sng_signals::writers::{ERRORS_PATIENCE_MS, wait_for};
 use std::fs::File;
 use std::net::{Net, UdpSocket};
 use std::rt::{Clock, Files};

@@ -3,9 +3,9 @@ ghost use Rattle.std.specs.Prelude.{◌≡◌, ◌+◌, length};
 ghost use Rattle.sng_core.specs.Census.{census_of};
 
 use crate::hub::Hub;
-use crate::level::Level;
 use sng_desk::Desk;
 use sng_operator::status::{Overview, push_status};
+use sng_signals::level::Level;
 use std::sync::{Mutex, Wait};
 
 /// Prints how the gateway stands, or tells that it cannot.

@@ -1,9 +1,9 @@
 //! Standard output and standard error, each with a board and a writer at it.
 
-use crate::bell::{Bell, Ear};
-use crate::board::Board;
 use crate::opening::NotBegun;
-use crate::writers::{start_errors, start_output};
+use sng_signals::bell::{Bell, Ear};
+use sng_signals::board::Board;
+use sng_signals::writers::{start_errors, start_output};
 use std::alloc::{AllocError, Global};
 use std::net::Net;
 use std::rt::Clock;

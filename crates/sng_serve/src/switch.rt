@@ -2,9 +2,7 @@
 //! and tells an operator what came of acts and workers.
 ghost use Rattle.std.specs.Prelude.{true};
 
-use crate::count::Count;
 use crate::hub::Hub;
-use crate::level::Level;
 use crate::limits::{CLOCK_ROWS, FULL_ROWS, NEARLY_FULL_ROWS, PIECE_ENTRIES, TURN_ROWS};
 use crate::socket::second_of;
 use sng_book::Event;
@@ -12,6 +10,8 @@ use sng_desk::{ActFault, Gate, Receipt, Volume, WorkerFault};
 use sng_operator::denials::denies_all;
 use sng_operator::ends::Halt;
 use sng_operator::roles::{OTHERS, Role, Roles};
+use sng_signals::count::Count;
+use sng_signals::level::Level;
 use std::rt::Clock;
 use std::sync::Wait;
 use std::sync::atomic::{AtomicU64, Ordering};

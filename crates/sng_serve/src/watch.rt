@@ -1,10 +1,10 @@
 //! The clock and the ear of the worker at the broker: all its waits are here, and each ends with the gateway.
 
-use crate::bell::Ear;
 use crate::hub::Hub;
 use mio::net::TcpStream;
 use mio::{Interest, Token};
 use sng_bounds::loss::Loss;
+use sng_signals::bell::Ear;
 use std::io;
 use std::net::{Net, SocketAddr};
 use std::rt::Clock;

@@ -2,9 +2,9 @@
 -- (MQTT 3.1.1, 2.2).
 use Rattle.std.specs.Prelude.{ℕ, zero, suc, ◌+◌, ◌-◌, ◌*◌, ◌/◌, ◌%◌, ◌^◌, ◌==◌, ◌||◌, min, not, nat_lt, Bool, false}
 use Rattle.std.specs.Prelude.{List, [], ◌∷◌, if◌then◌else◌}
-use Rattle.sng_serve.specs.declared.reach.Place.{Place}
-use Rattle.sng_serve.specs.declared.reach.Place.TheVariants.{Between, Head, Body}
-use Rattle.sng_serve.specs.declared.reach.Reach.{Reach}
+use Rattle.sng_signals.specs.declared.reach.Place.{Place}
+use Rattle.sng_signals.specs.declared.reach.Place.TheVariants.{Between, Head, Body}
+use Rattle.sng_signals.specs.declared.reach.Reach.{Reach}
 
 -- a packet of each kind may let something out to devices but PUBACK, SUBACK, UNSUBACK and PINGRESP, which is
 -- the upper half of its first byte

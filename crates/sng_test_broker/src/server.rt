@@ -1,8 +1,6 @@
 //! `sng broker`: the test broker over TCP, on one thread.
 
-use crate::level::Level;
-use crate::tell::tell;
-use crate::test_client::{Heard, TestClient};
+use crate::client::{Heard, TestClient};
 use mio::net::TcpListener;
 use mio::{Events, Interest, Poll, Token};
 use mqtt_frames::Packet;
@@ -10,6 +8,8 @@ use sng_broker::BrokerCore;
 use sng_operator::ask::socket_address_of;
 use sng_script::Status;
 use sng_script::ending::ended;
+use sng_signals::level::Level;
+use sng_signals::tell::tell;
 use std::alloc::{AllocError, Global};
 use std::io;
 use std::net::{Net, SocketAddr};

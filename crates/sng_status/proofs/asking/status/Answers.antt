@@ -1,5 +1,5 @@
-use Rattle.sng_serve.proofs.AskingLemmas.{well_where_done}
-use Rattle.sng_serve.proofs.asking.status.Goals as goal
+use Rattle.sng_status.proofs.AskingLemmas.{well_where_done}
+use Rattle.sng_status.proofs.asking.status.Goals as goal
 
 pub returns-in-Ok-show : goal.returns-in-Ok-show
 returns-in-Ok-show g c done = record {

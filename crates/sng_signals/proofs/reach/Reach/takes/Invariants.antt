@@ -1,6 +1,6 @@
 use Rattle.std.proofs.Common.{◌≡◌, ◌||◌, length}
-use Rattle.sng_serve.specs.Reaches.{after, one_reaches}
-use Rattle.sng_serve.proofs.reach.Reach.takes.Given as goal
+use Rattle.sng_signals.specs.Reaches.{after, one_reaches}
+use Rattle.sng_signals.proofs.reach.Reach.takes.Given as goal
 
 abbrev pub invariant-loop-rest : goal.invariant-loop-rest
 invariant-loop-rest l = record {

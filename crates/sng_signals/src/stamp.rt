@@ -1,7 +1,7 @@
 //! The time before a line, as RFC 3339 writes it, in UTC and to the second.
 ghost use Rattle.std.specs.Prelude.{◌≡◌, codes};
 ghost use Rattle.sng_archive.specs.Utc.{IsTime};
-ghost use Rattle.sng_serve.specs.Stamps.{digits_of, signs_of};
+ghost use Rattle.sng_signals.specs.Stamps.{digits_of, signs_of};
 
 use sng_archive::utc;
 

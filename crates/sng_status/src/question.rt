@@ -1,10 +1,10 @@
 //! One question to a gateway over HTTP (RFC 9112), on a connection of its own, and the octets of its answer.
 ghost use Rattle.std.specs.Prelude.{◌≤◌, length, IfOk};
 
-use crate::bell::Ear;
-use crate::writers::{is_past, time_after};
 use mio::net::TcpStream;
 use mio::{Interest, Token};
+use sng_signals::bell::Ear;
+use sng_signals::clock::{is_past, time_after};
 use std::alloc::AllocError;
 use std::fmt;
 use std::fmt::{Display, Formatter};

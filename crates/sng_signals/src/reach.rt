@@ -1,8 +1,8 @@
 //! Whether what the broker sends may reach devices: a PUBLISH may (MQTT 3.1.1, 3.3), and no acknowledgement
 //! does. The worker at the broker needs the token only for pieces of the stream with a packet that may.
 ghost use Rattle.std.specs.Prelude.{◌≡◌, ◌≤◌, ◌<◌, ◌^◌, ◌||◌, ◌∷◌, length, false};
-ghost use Rattle.sng_serve.specs.Reaches.{after, one_reaches, behind_length, before_end, may_reach};
-ghost use Rattle.sng_serve.specs.declared.reach.Place.TheVariants.{Between};
+ghost use Rattle.sng_signals.specs.Reaches.{after, one_reaches, behind_length, before_end, may_reach};
+ghost use Rattle.sng_signals.specs.declared.reach.Place.TheVariants.{Between};
 
 /// So many bytes at most has a Remaining Length (MQTT 3.1.1, 2.2.3).
 const MAX_LENGTH_BYTES: u32 = 4;

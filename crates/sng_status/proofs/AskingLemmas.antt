@@ -4,7 +4,7 @@ use Rattle.sng_metrics.specs.declared.health.Health.{Health}
 use Rattle.sng_script.specs.Statuses.{ended}
 use Rattle.sng_script.specs.declared.status.Status.{Status}
 use Rattle.sng_script.specs.declared.status.Status.TheVariants.{Done, Unreadable}
-use Rattle.sng_serve.specs.Askings.{EndsBy, is_well_by}
+use Rattle.sng_status.specs.Askings.{EndsBy, is_well_by}
 
 done_where : (well printed : Bool) → ended (if well then Done else Unreadable) printed ≡ Done → well ≡ true
 done_where true printed is = refl

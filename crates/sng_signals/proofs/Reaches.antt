@@ -1,8 +1,8 @@
 -- The bytes of the rest of a packet, passed one after another or at once.
 use Rattle.std.proofs.Common.{◌≡◌, ℕ, zero, suc, ◌-◌, ◌≤◌, ◌||◌, Bool, true, false, List, [], ◌∷◌, length, drop, refl, ap, ◌∙◌, arith}
-use Rattle.sng_serve.specs.declared.reach.Place.TheVariants.{Body}
-use Rattle.sng_serve.specs.declared.reach.Reach.{Reach}
-use Rattle.sng_serve.specs.Reaches.{after, one_reaches, before_end}
+use Rattle.sng_signals.specs.declared.reach.Place.TheVariants.{Body}
+use Rattle.sng_signals.specs.declared.reach.Reach.{Reach}
+use Rattle.sng_signals.specs.Reaches.{after, one_reaches, before_end}
 
 abbrev at_end : ℕ → Bool → Reach
 at_end left reaches = record { place = before_end left; reaches = reaches }

@@ -3,7 +3,7 @@
 
 use crate::bell::Ear;
 use crate::board::Board;
-use crate::keeping::seconds;
+use crate::clock::{is_past, seconds, time_after};
 use crate::level::Level;
 use crate::stamp::stamp;
 use std::alloc::{AllocError, Global};
@@ -139,17 +139,6 @@ fn rest<R: Clock>(rt: &R, ear: &mut Ear) {
         // as after the process was stopped and continued
         thread::sleep(rt, Duration::from_millis(NAP_MS));
     }
-}
-
-/// The time after so many ms.
-pub fn time_after<R: Clock>(rt: &R, time: u64) -> Duration {
-    let now = rt.monotonic().unwrap_or(Duration::MAX);
-    now.saturating_add(Duration::from_millis(time))
-}
-
-/// Whether this time has come. It has where the clock cannot be read.
-pub fn is_past<R: Clock>(rt: &R, end: Duration) -> bool {
-    end <= rt.monotonic().unwrap_or(Duration::MAX)
 }
 
 /// Waits until all texts are written, or none was for so many ms. Whether all are.

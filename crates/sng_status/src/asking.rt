@@ -1,10 +1,8 @@
 //! `sng status`: asks a running gateway for its figures, and prints those that matter.
 ghost use Rattle.std.specs.Prelude.{◌≡◌, ◌≢◌, IfOk};
-ghost use Rattle.sng_serve.specs.Askings.{EndsBy, IsOfAnswer, IsWell, status_of};
+ghost use Rattle.sng_status.specs.Askings.{EndsBy, IsOfAnswer, IsWell, status_of};
 
-use crate::level::Level;
 use crate::question::{NoAnswer, answer_at};
-use crate::tell::tell;
 use sng_metrics::{
     AnswerFault, Health, Page, Summary, SummaryFault, USUAL_METRICS, push_table, read_answer,
     read_summary, request_for,
@@ -12,6 +10,8 @@ use sng_metrics::{
 use sng_operator::ask::socket_address_of;
 use sng_script::Status;
 use sng_script::ending::ended;
+use sng_signals::level::Level;
+use sng_signals::tell::tell;
 use std::alloc::AllocError;
 use std::fmt::{Display, Formatter};
 use std::io::Write;
