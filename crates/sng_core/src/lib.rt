@@ -18,6 +18,7 @@ mod packets;
 mod parts;
 mod publish;
 mod receive;
+mod refusal;
 mod register;
 mod replace;
 mod request;

@@ -5,6 +5,7 @@ ghost use Rattle.sng_history.specs.Whole.{stranger_to};
 ghost use Rattle.sng_core.specs.Requesting.{asked};
 
 use crate::answers::{denied_note, dismissed, only};
+use crate::refusal::refused;
 use crate::request::SessionRequest;
 use sng_book::{Address, Decision, Denial, FormDenial, Out, Outcome, OutsPair, Who};
 use std::alloc::{AllocError, Global};
@@ -55,6 +56,8 @@ pub fn stranger(
 fn dismiss(alloc: Global, from: Address, note: Decision) -> Result<OutsPair, AllocError>
     ensures { IfOk result (λ outs. outs ≡ Out.Note note ∷ dismissed from ∷ []) }
 {
-    let answer = dismissed(alloc, from)?;
-    OutsPair::two(alloc, Out::Note(note), answer)
+    match dismissed(alloc, from) {
+        Ok(answer) => OutsPair::two(alloc, Out::Note(note), answer),
+        Err(AllocError) => refused(note),
+    }
 }

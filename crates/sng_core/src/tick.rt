@@ -22,6 +22,7 @@ ghost use Rattle.sng_link.specs.Rooms.{HasPlaces};
 ghost use Rattle.sng_core.specs.Ending.{ending_outs, ending_next, outs_behind, room_behind_ends};
 
 use crate::parts::Parts;
+use crate::refusal::refused;
 use sng_book::{Decision, Out, Outcome, Outs, OutsPair, ReservedOuts, Who};
 use sng_endings::{SubscriptionEnd, end_all, endings, room_after};
 use sng_grants::Limits;
@@ -105,12 +106,22 @@ impl Parts {
     {
         let policy = self.policy.left(clock)?;
         let limits = policy.limits();
-        let endings = endings(alloc, &self.policy, &policy, &self.sessions)?;
+        let Ok(endings) = endings(alloc, &self.policy, &policy, &self.sessions) else {
+            return refused(policy);
+        };
         let is_due = self.link.is_ping_due(self.is_up, clock);
         let ended = endings.as_slice();
-        let DuesBehind { dues, outs } = self.dues_behind(alloc, clock, &policy, ended, is_due)?;
-        let (mut all, again) = room_with(alloc, endings.len(), &outs)?;
-        make_room(&mut self.link, endings.len(), dues.as_slice(), is_due)?;
+        let Ok(behind) = self.dues_behind(alloc, clock, &policy, ended, is_due) else {
+            return refused((policy, endings));
+        };
+        let DuesBehind { dues, outs } = behind;
+        let Ok((mut all, again)) = room_with(alloc, endings.len(), &outs) else {
+            return refused((policy, endings, dues, outs));
+        };
+        let items = dues.as_slice();
+        let Ok(()) = make_room(&mut self.link, endings.len(), items, is_due) else {
+            return refused((policy, endings, dues, outs, all, again));
+        };
         end_all(
             endings,
             limits,
