@@ -16,6 +16,7 @@ ghost use Rattle.sng_core.specs.Connecting.{let_go, accepted_outs, refused_outs,
 
 use crate::answers::{code_of, connack, dismissed, welcome};
 use crate::parts::Parts;
+use crate::refusal::refused;
 use crate::verdict::entry;
 use sng_book::{Address, Decision, Denial, Out, Outcome, Outs, OutsPair};
 use sng_fan::Held;
@@ -96,28 +97,25 @@ impl Parts {
         let limits = self.policy.limits();
         let dropped = unplaced(&alone, &self.link, limits);
         let sessions = &self.sessions;
-        let mut outs = accepted_outs(alloc, from, &connect.client_id, sessions, at, dropped)?;
+        let id = &connect.client_id;
+        let Ok(mut outs) = accepted_outs(alloc, from, id, sessions, at, dropped) else {
+            return refused((connect, alone));
+        };
         let place = sessions.find(&connect.client_id);
-        let handed = entering(
-            alloc,
-            &self.policy,
-            from,
-            &connect,
-            sessions,
-            place,
-            &mut outs,
-        )?;
-        let outs = OutsPair::of(alloc, outs)?;
-        self.link.room(alone.len())?;
-        enter(
-            alloc,
-            from,
-            connect,
-            &mut self.sessions,
-            place,
-            handed,
-            self.clock,
-        )?;
+        let policy = &self.policy;
+        let Ok(handed) = entering(alloc, policy, from, &connect, sessions, place, &mut outs) else {
+            return refused((connect, alone, outs));
+        };
+        let Ok(outs) = OutsPair::of(alloc, outs) else {
+            return refused((connect, alone, handed));
+        };
+        let Ok(()) = self.link.room(alone.len()) else {
+            return refused((connect, alone, handed, outs));
+        };
+        let (sessions, clock) = (&mut self.sessions, self.clock);
+        let Ok(()) = enter(alloc, from, connect, sessions, place, handed, clock) else {
+            return refused((alone, outs));
+        };
         let_go(&mut self.link, limits, alone);
         Ok(outs)
     }

@@ -11,6 +11,7 @@ ghost use Rattle.sng_core.specs.Forms.{carried_outs, carried};
 
 use crate::answers::code_of;
 use crate::parts::Parts;
+use crate::refusal::refused;
 use crate::verdict::{Judged, and_then, client_name, copy_name, may_ask, unread};
 use sng_book::{Address, Decision, Denial, Out, Outcome, OutsPair, Who};
 use sng_frames::{
@@ -39,11 +40,17 @@ impl Parts {
     {
         let room = self.room(qos_of(publish.flags.qos));
         let judged = judged(alloc, &self.policy, room, &self.sessions, place, &publish)?;
-        let outs = noted(alloc, &publish, &self.sessions, place, &judged)?;
-        let asked = publication(self.sessions.id(place), publish, judged)?;
+        let Ok(outs) = noted(alloc, &publish, &self.sessions, place, &judged) else {
+            return refused((publish, judged));
+        };
+        let Ok(asked) = publication(self.sessions.id(place), publish, judged) else {
+            return refused(outs);
+        };
         match asked {
             Some(publication) => {
-                self.link.room(1)?;
+                let Ok(()) = self.link.room(1) else {
+                    return refused((outs, publication));
+                };
                 self.sessions.hear(place, self.clock);
                 self.link.push(publication);
                 Ok(outs)

@@ -7,6 +7,7 @@ ghost use Rattle.sng_core.specs.Forms.{joined};
 
 use crate::answers::only;
 use crate::parts::Parts;
+use crate::refusal::refused;
 use crate::verdict::source_name;
 use sng_book::{Decision, Denial, GrantDenial, Out, Outcome, OutsPair, Who};
 use sng_frames::Publish;
@@ -51,11 +52,17 @@ impl Parts {
         ensures err { OnErr result (self.new ≡ self.old) }
     {
         let origin = Origin::Source(source);
-        let verdict = self.verdict(alloc, &origin, &name, Qos::AtMostOnce)?;
+        let Ok(verdict) = self.verdict(alloc, &origin, &name, Qos::AtMostOnce) else {
+            return refused((origin, name, publish));
+        };
         let is_allowed = verdict.is_allowed();
-        let outs = asked_outs(alloc, source, &name, verdict)?;
+        let Ok(outs) = asked_outs(alloc, source, &name, verdict) else {
+            return refused((origin, name, publish));
+        };
         if is_allowed {
-            self.link.room(1)?;
+            let Ok(()) = self.link.room(1) else {
+                return refused((outs, origin, name, publish));
+            };
             let retain = publish.flags.retain;
             let payload = publish.payload;
             self.link.push(Publication {

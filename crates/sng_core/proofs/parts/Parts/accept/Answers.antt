@@ -19,12 +19,12 @@ returns-clause-next c =
     let s : State = the_view c.self.inside in
     let connect = c.args.connect in
     let handed =
-    c.in_ok-handed.ensures.plan ∙ ap
+    c.in-Ok-entering.ensures.plan ∙ ap
     (λ place. own_plan s.policy connect (at_place s.clients place)) c.find-place.ensures.place in
     ap (λ link. with_both s link c.enter.new.sessions)
     (c.let_go.ensures ∙ (λ i. let_go (c.limits-limits.ensures i) (c.room.ensures.link i)
     (c.in_ok-alone.ensures i)))
-    ∙ (ap (with_both s (let_go s.policy.limits s.link (alone_by connect s.clients))) (c.in_ok-enter.ensures.ok
+    ∙ (ap (with_both s (let_go s.policy.limits s.link (alone_by connect s.clients))) (c.in-Ok-enter.ensures.ok
     ∙ (λ i. moved_if (c.find-place.ensures.place i) (handed_by s.clock (handed i))
     (entered s.clock c.args.from connect s.clients)))
     ∙ ap (λ t. connect_next t c.args.from connect Allowed) c.self.view_is)
@@ -37,10 +37,10 @@ returns-clause-outs c =
     let count =
     c.unplaced-dropped.ensures
     ∙ (λ i. length (c.in_ok-alone.ensures i) - places_left (c.limits-limits.ensures i) s.link) in
-    c.in_ok-outs-2.ensures
-    ∙ (c.in_ok-handed.ensures.outs
+    c.in-Ok-of.ensures
+    ∙ (c.in-Ok-entering.ensures.outs
     ∙ (ap (λ outs. outs ++ own_outs s.policy from connect (at_place s.clients c.find-place.result))
-    (c.in_ok-outs.ensures ∙ ap (accepted_outs from connect.client_id s.clients) count)
+    (c.in-Ok.ensures ∙ ap (accepted_outs from connect.client_id s.clients) count)
     ∙ (ap (λ place. accepted_outs from connect.client_id s.clients (dropped_by s connect)
     ++ own_outs s.policy from connect (at_place s.clients place)) c.find-place.ensures.place
     ∙ ap (λ t. connect_outs t from connect Allowed) c.self.view_is)))
