@@ -16,7 +16,7 @@ ghost use Rattle.sng_core.specs.Connecting.{let_go, accepted_outs, refused_outs,
 
 use crate::answers::{code_of, connack, dismissed, welcome};
 use crate::parts::Parts;
-use crate::refusal::refused;
+use crate::refusal::out_of_memory;
 use crate::verdict::entry;
 use sng_book::{Address, Decision, Denial, Out, Outcome, Outs, OutsPair};
 use sng_fan::Held;
@@ -99,22 +99,22 @@ impl Parts {
         let sessions = &self.sessions;
         let id = &connect.client_id;
         let Ok(mut outs) = accepted_outs(alloc, from, id, sessions, at, dropped) else {
-            return refused((connect, alone));
+            return out_of_memory((connect, alone));
         };
         let place = sessions.find(&connect.client_id);
         let policy = &self.policy;
         let Ok(handed) = entering(alloc, policy, from, &connect, sessions, place, &mut outs) else {
-            return refused((connect, alone, outs));
+            return out_of_memory((connect, alone, outs));
         };
         let Ok(outs) = OutsPair::of(alloc, outs) else {
-            return refused((connect, alone, handed));
+            return out_of_memory((connect, alone, handed));
         };
         let Ok(()) = self.link.room(alone.len()) else {
-            return refused((connect, alone, handed, outs));
+            return out_of_memory((connect, alone, handed, outs));
         };
         let (sessions, clock) = (&mut self.sessions, self.clock);
         let Ok(()) = enter(alloc, from, connect, sessions, place, handed, clock) else {
-            return refused((alone, outs));
+            return out_of_memory((alone, outs));
         };
         let_go(&mut self.link, limits, alone);
         Ok(outs)

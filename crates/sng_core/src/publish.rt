@@ -11,7 +11,7 @@ ghost use Rattle.sng_core.specs.Forms.{carried_outs, carried};
 
 use crate::answers::code_of;
 use crate::parts::Parts;
-use crate::refusal::refused;
+use crate::refusal::out_of_memory;
 use crate::verdict::{Judged, and_then, client_name, copy_name, may_ask, unread};
 use sng_book::{Address, Decision, Denial, Out, Outcome, OutsPair, Who};
 use sng_frames::{
@@ -41,15 +41,15 @@ impl Parts {
         let room = self.room(qos_of(publish.flags.qos));
         let judged = judged(alloc, &self.policy, room, &self.sessions, place, &publish)?;
         let Ok(outs) = noted(alloc, &publish, &self.sessions, place, &judged) else {
-            return refused((publish, judged));
+            return out_of_memory((publish, judged));
         };
         let Ok(asked) = publication(self.sessions.id(place), publish, judged) else {
-            return refused(outs);
+            return out_of_memory(outs);
         };
         match asked {
             Some(publication) => {
                 let Ok(()) = self.link.room(1) else {
-                    return refused((outs, publication));
+                    return out_of_memory((outs, publication));
                 };
                 self.sessions.hear(place, self.clock);
                 self.link.push(publication);

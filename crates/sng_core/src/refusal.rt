@@ -5,7 +5,7 @@ ghost use Rattle.std.specs.Prelude.{IsErr};
 use std::alloc::AllocError;
 
 /// Memory was refused, and this is dropped.
-pub fn refused<T, L: Drop>(_left: L) -> Result<T, AllocError>
+pub fn out_of_memory<T, L: Drop>(_left: L) -> Result<T, AllocError>
     ensures { IsErr result }
 {
     Err(AllocError)

@@ -7,7 +7,7 @@ ghost use Rattle.sng_core.specs.Forms.{joined};
 
 use crate::answers::only;
 use crate::parts::Parts;
-use crate::refusal::refused;
+use crate::refusal::out_of_memory;
 use crate::verdict::source_name;
 use sng_book::{Decision, Denial, GrantDenial, Out, Outcome, OutsPair, Who};
 use sng_frames::Publish;
@@ -53,15 +53,15 @@ impl Parts {
     {
         let origin = Origin::Source(source);
         let Ok(verdict) = self.verdict(alloc, &origin, &name, Qos::AtMostOnce) else {
-            return refused((origin, name, publish));
+            return out_of_memory((origin, name, publish));
         };
         let is_allowed = verdict.is_allowed();
         let Ok(outs) = asked_outs(alloc, source, &name, verdict) else {
-            return refused((origin, name, publish));
+            return out_of_memory((origin, name, publish));
         };
         if is_allowed {
             let Ok(()) = self.link.room(1) else {
-                return refused((outs, origin, name, publish));
+                return out_of_memory((outs, origin, name, publish));
             };
             let retain = publish.flags.retain;
             let payload = publish.payload;

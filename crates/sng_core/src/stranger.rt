@@ -5,7 +5,7 @@ ghost use Rattle.sng_history.specs.Whole.{stranger_to};
 ghost use Rattle.sng_core.specs.Requesting.{asked};
 
 use crate::answers::{denied_note, dismissed, only};
-use crate::refusal::refused;
+use crate::refusal::out_of_memory;
 use crate::request::SessionRequest;
 use sng_book::{Address, Decision, Denial, FormDenial, Out, Outcome, OutsPair, Who};
 use std::alloc::{AllocError, Global};
@@ -58,6 +58,6 @@ fn dismiss(alloc: Global, from: Address, note: Decision) -> Result<OutsPair, All
 {
     match dismissed(alloc, from) {
         Ok(answer) => OutsPair::two(alloc, Out::Note(note), answer),
-        Err(AllocError) => refused(note),
+        Err(AllocError) => out_of_memory(note),
     }
 }

@@ -22,7 +22,7 @@ ghost use Rattle.sng_link.specs.Rooms.{HasPlaces};
 ghost use Rattle.sng_core.specs.Ending.{ending_outs, ending_next, outs_behind, room_behind_ends};
 
 use crate::parts::Parts;
-use crate::refusal::refused;
+use crate::refusal::out_of_memory;
 use sng_book::{Decision, Out, Outcome, Outs, OutsPair, ReservedOuts, Who};
 use sng_endings::{SubscriptionEnd, end_all, endings, room_after};
 use sng_grants::Limits;
@@ -107,20 +107,20 @@ impl Parts {
         let policy = self.policy.left(clock)?;
         let limits = policy.limits();
         let Ok(endings) = endings(alloc, &self.policy, &policy, &self.sessions) else {
-            return refused(policy);
+            return out_of_memory(policy);
         };
         let is_due = self.link.is_ping_due(self.is_up, clock);
         let ended = endings.as_slice();
         let Ok(behind) = self.dues_behind(alloc, clock, &policy, ended, is_due) else {
-            return refused((policy, endings));
+            return out_of_memory((policy, endings));
         };
         let DuesBehind { dues, outs } = behind;
         let Ok((mut all, again)) = room_with(alloc, endings.len(), &outs) else {
-            return refused((policy, endings, dues, outs));
+            return out_of_memory((policy, endings, dues, outs));
         };
         let items = dues.as_slice();
         let Ok(()) = make_room(&mut self.link, endings.len(), items, is_due) else {
-            return refused((policy, endings, dues, outs, all, again));
+            return out_of_memory((policy, endings, dues, outs, all, again));
         };
         end_all(
             endings,
