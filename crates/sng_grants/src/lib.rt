@@ -4,6 +4,7 @@
 
 mod comparing;
 pub mod grant;
+pub mod key;
 pub mod laws;
 pub mod limits;
 pub mod listed;
@@ -12,6 +13,7 @@ pub mod scope;
 pub mod topics;
 
 pub use grant::{Grant, is_reached, sooner};
+pub use key::Key;
 pub use limits::{
     DEFAULT_CLIENTS, DEFAULT_FLIGHT, DEFAULT_SOURCES, DEFAULT_TOPICS, DEFAULT_WAITING, Limits,
     MAX_FLIGHT, MAX_PAIRS, MAX_POLICY_CLIENTS, MAX_SOURCES, MAX_TOPICS, MAX_WAITING,

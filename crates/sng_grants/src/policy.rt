@@ -6,9 +6,9 @@ ghost use Rattle.sng_grants.specs.Policies.{ListsWithin, no_policy};
 ghost use Rattle.sng_grants.specs.Sources.{scope_of, first_end};
 
 use crate::{Grant, Limits, Listed, MAX_POLICY_CLIENTS, MAX_SOURCES, Scope, Topics, sooner};
+use indexmap::map::Iter;
 use sng_text::ClientId;
 use std::alloc::{AllocError, Global};
-use std::collections::btree_map::Iter;
 use std::marker::Model;
 
 /// The grant of each client that a policy lists, by client id. Contracts see the list of client ids with

@@ -8,10 +8,10 @@ ghost use Rattle.sng_grants.specs.Laws.{AreIdsInOrder};
 ghost use Rattle.sng_grants.specs.Topics.{IsTopicId, name_of, id_of, indexed};
 
 use crate::{Listed, MAX_TOPICS};
+use indexmap::map::Iter;
 use sng_text::TopicName;
 use std::alloc::{AllocError, Global};
 use std::collections::HashMap;
-use std::collections::btree_map::Iter;
 use std::marker::Model;
 
 /// Topic names by predefined topic id.

@@ -2,8 +2,8 @@
 ghost use Rattle.std.specs.Prelude.{◌≡◌, ◌≤◌, ◌<◌, ◌^◌, length};
 ghost use Rattle.sng_questions.specs.Ends.{ending_scopes, ends_in};
 
+use indexmap::map::Iter;
 use sng_grants::{Grant, Policy};
-use std::collections::btree_map::Iter;
 
 /// How many of the policy's scopes end.
 pub fn ending_scopes(policy: &Policy) -> usize

@@ -1,5 +1,7 @@
 //! The members of a policy object: the version, the limits, the clients, the sources and the topics.
-ghost use Rattle.std.specs.Prelude.{◌≡◌, ◌⊎◌, IfOk, IfErr, Ok, Err, MatchResult, nat_lt, length, ◌≤◌};
+ghost use Rattle.std.specs.Prelude.{◌≡◌, ◌⊎◌, IfOk, IfErr, OnOk, Ok, Err, MatchResult, nat_lt, length};
+ghost use Rattle.std.specs.Prelude.{◌+◌, ◌≤◌};
+ghost use Rattle.std.specs.BTreeMap.{insert_entry};
 ghost use Rattle.serde_json.specs.Events.{members_len};
 ghost use Rattle.serde_json.specs.View.{view, members_view};
 ghost use Rattle.sng_scope.specs.Policies.{is_known, are_known, is_version, may_end, may_limit};
@@ -16,6 +18,7 @@ use clients::clients_in;
 use serde_json::{Map, Value};
 use sources::sources_in;
 use std::alloc::Global;
+use std::collections::BTreeMap;
 use topics::topics_in;
 
 /// The policy that the value is, or the first of its faults.
@@ -134,4 +137,20 @@ fn is_over(members: &Map<String, Value>, most: usize) -> bool
     ensures few { result ≡ nat_lt most (length members.now.entries) }
 {
     members.len() > most
+}
+
+/// The key has the value, in its place in the order.
+fn put<K: Ord + Drop, V: Drop>(
+    entries: &mut BTreeMap<K, V>,
+    key: K,
+    value: V,
+) -> Result<(), PolicyFault>
+    ensures ok { OnOk result (entries.new.entries ≡ insert_entry K.cmp entries.old.entries key value) }
+    ensures one_more { OnOk result (length entries.new.entries ≤ length entries.old.entries + 1) }
+    ensures err { IfErr result (λ e. e ≡ PolicyFault.Memory) }
+{
+    match entries.insert(key, value) {
+        Ok(_) => Ok(()),
+        Err(_) => Err(PolicyFault::Memory),
+    }
 }

@@ -23,7 +23,7 @@ mod reading;
 
 pub use client::ClientId;
 pub use common::past_common;
-pub use comparing::{Compare, all_same, entries_same};
+pub use comparing::{Compare, all_same};
 pub use fault::{RefusedText, TextFault};
 pub use filter::TopicFilter;
 pub use ipv4::read_ipv4;

@@ -31,6 +31,7 @@ pub fn clients_in(
     }
 }
 
+/// The members come in the order of their texts, which are the client ids: each goes behind those before it.
 fn clients_of(
     alloc: Global,
     ends: bool,

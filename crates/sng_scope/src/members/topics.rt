@@ -4,13 +4,14 @@ ghost use Rattle.serde_json.specs.Find.{get};
 ghost use Rattle.serde_json.specs.View.{view, members_view};
 ghost use Rattle.sng_scope.specs.Policies.{name_of_data, topics_of, topics_onto};
 
-use super::members_within;
+use super::{members_within, put};
 use crate::topic_id::topic_id_from;
 use crate::{PolicyFault, Topics};
 use serde_json::{Map, Value};
 use sng_grants::{MAX_TOPICS, Names};
 use sng_text::{TextFault, TopicName};
 use std::alloc::Global;
+use std::collections::BTreeMap;
 
 /// The topics that the policy names, at most so many: none where it has no such member.
 pub fn topics_in(alloc: Global, most: usize, policy: &Value) -> Result<Topics, PolicyFault>
@@ -26,6 +27,8 @@ pub fn topics_in(alloc: Global, most: usize, policy: &Value) -> Result<Topics, P
     }
 }
 
+/// The members come in the order of their texts, which is not that of the ids: "10" stands before "9". So a
+/// tree takes them, where a list would move at each all that stand behind it.
 #[tactic(auto, using(crate::proofs::KeyLemmas::ids_more))]
 fn topics_of(alloc: Global, members: &Map<String, Value>) -> Result<Topics, PolicyFault>
     requires { length members.now.entries ≤ MAX_TOPICS }
@@ -34,14 +37,15 @@ fn topics_of(alloc: Global, members: &Map<String, Value>) -> Result<Topics, Poli
         ⊎ (topics_onto [] (members_view members.now.entries) ≡ Err e)) }
     ensures few { IfOk result (λ t. length t ≤ length members.now.entries) }
 {
-    let mut names = Names::new(alloc);
+    let mut names = BTreeMap::new(alloc);
     for (name, value) in members {
         let Some(id) = topic_id_from(name.as_str()) else {
             return Err(PolicyFault::BadTopicId);
         };
         let topic = name_from(alloc, value)?;
-        names.insert(id, topic).map_err(|_| PolicyFault::Memory)?;
+        put(&mut names, id, topic)?;
     }
+    let names = Names::of(alloc, names).map_err(|_| PolicyFault::Memory)?;
     Topics::of(alloc, names).map_err(|_| PolicyFault::Memory)
 }
 

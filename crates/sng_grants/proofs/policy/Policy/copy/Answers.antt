@@ -1,6 +1,5 @@
 use Rattle.std.proofs.Common.{◌≡◌}
 use Rattle.std.proofs.lemmas.Map.Entries.{entries_from_clone}
-use Rattle.std.specs.List.{each_same}
 use Rattle.sng_grants.proofs.policy.Policy.copy.Goals as goal
 
 pub returns : goal.returns
@@ -8,6 +7,5 @@ returns c =
     let clients : c.in_ok-clients.clients ≡ c.self.inside.clients =
     entries_from_clone _ _ (λ x y is. is) (λ v w is. is) _ _ c.in_ok-clients.ensures.cases in
     let sources : c.in_ok-sources.sources ≡ c.self.inside.sources =
-    entries_from_clone _ _ (λ x y is. each_same x y is.whole)
-    (λ v w is. is) _ _ c.in_ok-sources.ensures.cases in
+    entries_from_clone _ _ (λ x y is. is) (λ v w is. is) _ _ c.in_ok-sources.ensures.cases in
     rw (clients, sources, c.in_ok-topics.ensures) c.self.view_is

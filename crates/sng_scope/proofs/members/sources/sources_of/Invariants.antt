@@ -5,5 +5,5 @@ use Rattle.sng_scope.proofs.members.sources.sources_of.Given as goal
 
 abbrev pub invariant-loop-name : goal.invariant-loop-name
 invariant-loop-name l =
-    (sources_onto l.ends l.sources (members_view l.name-iterator) ≡ sources_onto l.ends [] (members_view l.members.entries))
-    × (length l.sources + length l.name-iterator ≤ length l.members.entries)
+    (sources_onto l.ends l.sources.entries (members_view l.name-iterator) ≡ sources_onto l.ends [] (members_view l.members.entries))
+    × (length l.sources.entries + length l.name-iterator ≤ length l.members.entries)
