@@ -16,7 +16,6 @@ ghost use Rattle.sng_core.specs.Connecting.{let_go, accepted_outs, refused_outs,
 
 use crate::answers::{code_of, connack, dismissed, welcome};
 use crate::parts::Parts;
-use crate::refusal::out_of_memory;
 use crate::verdict::entry;
 use sng_book::{Address, Decision, Denial, Out, Outcome, Outs, OutsPair};
 use sng_fan::Held;
@@ -24,7 +23,7 @@ use sng_frames::Connect;
 use sng_grants::Limits;
 use sng_link::Link;
 use sng_policy::InForce;
-use sng_sessions::{ClientIds, Handed, Opens, Sessions};
+use sng_sessions::{ClientIds, Handed, Opens, Sessions, out_of_memory};
 use sng_text::{ClientId, TopicFilter};
 use sng_turns::hand_over::{all_gone, hand_over};
 use sng_turns::turn::Recipient;

@@ -18,7 +18,6 @@ mod packets;
 mod parts;
 mod publish;
 mod receive;
-mod refusal;
 mod register;
 mod replace;
 mod request;

@@ -43,6 +43,7 @@ impl Core {
     /// One step. After any lawful book that leads to the state before, the row of this event and these outs may
     /// come, and leads to the state after. An `Err` is a failed allocation; nothing changed, and
     /// there is no row.
+    #[inline(always)]
     pub fn step(&mut self, alloc: Global, event: Event) -> Result<OutsPair, AllocError>
         ensures kept { IfOk result (λ outs. KeepsBook self.old event outs self.new) }
         ensures err { OnErr result (self.new ≡ self.old) }

@@ -11,7 +11,6 @@ ghost use Rattle.sng_core.specs.Forms.{carried_outs, carried};
 
 use crate::answers::code_of;
 use crate::parts::Parts;
-use crate::refusal::out_of_memory;
 use crate::verdict::{Judged, and_then, client_name, copy_name, may_ask, unread};
 use sng_book::{Address, Decision, Denial, Out, Outcome, OutsPair, Who};
 use sng_frames::{
@@ -20,7 +19,7 @@ use sng_frames::{
 use sng_history::exit;
 use sng_outbox::{Origin, Publication};
 use sng_policy::InForce;
-use sng_sessions::Sessions;
+use sng_sessions::{Sessions, out_of_memory};
 use sng_text::{ClientId, Octets, Qos, TopicName};
 use std::alloc::{AllocError, Global};
 

@@ -7,11 +7,11 @@ ghost use Rattle.sng_core.specs.Forms.{joined};
 
 use crate::answers::only;
 use crate::parts::Parts;
-use crate::refusal::out_of_memory;
 use crate::verdict::source_name;
 use sng_book::{Decision, Denial, GrantDenial, Out, Outcome, OutsPair, Who};
 use sng_frames::Publish;
 use sng_outbox::{Origin, Publication};
+use sng_sessions::out_of_memory;
 use sng_text::{Qos, TopicName};
 use std::alloc::{AllocError, Global};
 

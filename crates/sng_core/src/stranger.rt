@@ -5,9 +5,9 @@ ghost use Rattle.sng_history.specs.Whole.{stranger_to};
 ghost use Rattle.sng_core.specs.Requesting.{asked};
 
 use crate::answers::{denied_note, dismissed, only};
-use crate::refusal::out_of_memory;
 use crate::request::SessionRequest;
 use sng_book::{Address, Decision, Denial, FormDenial, Out, Outcome, OutsPair, Who};
+use sng_sessions::out_of_memory;
 use std::alloc::{AllocError, Global};
 
 /// It is noted as what it asks for, and answered by DISCONNECT. One that is not taken is noted alone.

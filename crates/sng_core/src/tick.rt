@@ -22,14 +22,13 @@ ghost use Rattle.sng_link.specs.Rooms.{HasPlaces};
 ghost use Rattle.sng_core.specs.Ending.{ending_outs, ending_next, outs_behind, room_behind_ends};
 
 use crate::parts::Parts;
-use crate::refusal::out_of_memory;
 use sng_book::{Decision, Out, Outcome, Outs, OutsPair, ReservedOuts, Who};
 use sng_endings::{SubscriptionEnd, end_all, endings, room_after};
 use sng_grants::Limits;
 use sng_link::{Link, Room};
 use sng_outbox::{Origin, Publication};
 use sng_policy::InForce;
-use sng_sessions::{Sessions, is_tried_out};
+use sng_sessions::{Sessions, is_tried_out, out_of_memory};
 use sng_text::ClientId;
 use sng_turns::again::{Retried, again, carry_again, is_repeating};
 use sng_turns::hand_over::all_gone;

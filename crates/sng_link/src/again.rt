@@ -16,7 +16,7 @@ ghost use Rattle.sng_link.specs.Resending.{without_all};
 ghost use Rattle.sng_link.specs.Steps.{Logged};
 ghost use Rattle.sng_link.specs.Taking.{Stands, Subscribed};
 
-use crate::leaving::{leave, packet_of};
+use crate::leaving::{leave_filter, packet_of};
 use crate::step::{Step, undo};
 use sng_book::{Decision, Out, Outs, OutsPair, Who};
 use sng_history::exit;
@@ -59,11 +59,13 @@ pub fn begin(
     let stand = wanted.len();
     let _opens = wanted.opens();
     outbox.tidy();
-    let count = outbox.in_flight();
-    let mut outs = Outs::with_capacity(alloc, count.saturating_mul(2).saturating_add(stand))?;
-    let mut log = Vec::with_capacity(alloc, count.saturating_add(stand))?;
-    let denied = judge(alloc, policy, outbox, &mut outs, &mut log)?;
     let filters = wanted.filters(alloc)?;
+    let resent = resend(alloc, policy, outbox, stand)?;
+    let Resent {
+        outs,
+        mut log,
+        denied,
+    } = resent;
     free_all(ids, log.as_slice());
     match subscribe_all(alloc, policy, filters, ids, wanted, outs, &mut log) {
         Ok(outs) => {
@@ -75,6 +77,38 @@ pub fn begin(
             Err(AllocError)
         }
     }
+}
+
+/// What the publishes in flight come to as a connection begins.
+#[derive(Drop)]
+struct Resent {
+    outs: Outs,
+    /// A step for each that does not stay in flight.
+    log: Vec<Step>,
+    /// The packet ids of these.
+    denied: Vec<u16>,
+}
+
+/// The same, with room for so many SUBSCRIBEs behind it. All of it is made here, and so it is owned at no way out
+/// of the one that needs it. Only memory can fail.
+fn resend(
+    alloc: Global,
+    policy: &InForce,
+    outbox: &Outbox,
+    stand: usize,
+) -> Result<Resent, AllocError>
+    ensures outs { IfOk result (λ resent. resent.outs
+        ≡ resending outbox.now.sending.in_flight (agains_of policy.now outbox.now.sending.in_flight)) }
+    ensures denied { IfOk result (λ resent. resent.denied.items ≡ denied_ids outbox.now.sending.in_flight
+        (map is_allowed (agains_of policy.now outbox.now.sending.in_flight))) }
+    ensures log { IfOk result (λ resent. resent.log.items ≡ denied_steps outbox.now.sending.in_flight
+        (map is_allowed (agains_of policy.now outbox.now.sending.in_flight))) }
+{
+    let count = outbox.in_flight();
+    let mut log = Vec::with_capacity(alloc, count.saturating_add(stand))?;
+    let mut outs = Outs::with_capacity(alloc, count.saturating_mul(2).saturating_add(stand))?;
+    let denied = judge(alloc, policy, outbox, &mut outs, &mut log)?;
+    Ok(Resent { outs, log, denied })
 }
 
 /// What the publishes in flight let out, behind the outs, and the packet ids of those that do not stay in
@@ -163,19 +197,37 @@ fn subscribe_all(
         → Stands from first (map Item.Subscribe filters.items) log.old.items ids.old wanted.old.wanted link
         → Logged from first log.new.items ids.new.marks wanted.new.wanted }
 {
-    for filter in filters {
-        leave(
-            alloc,
-            policy,
-            ids,
-            wanted,
-            &Item::Subscribe(filter),
-            &mut outs,
-            log,
-        )?;
-    }
+    subscribe_each(alloc, policy, filters, ids, wanted, &mut outs, log)?;
     let pair = OutsPair::of(alloc, outs)?;
     Ok(pair)
+}
+
+/// The same, where the outs stay with the caller.
+fn subscribe_each(
+    alloc: Global,
+    policy: &InForce,
+    filters: Vec<TopicFilter>,
+    ids: &mut PacketIds,
+    wanted: &mut Wanted,
+    outs: &mut Outs,
+    log: &mut Vec<Step>,
+) -> Result<(), AllocError>
+    requires { (from : List Bool) × (first : List Entry) × (link : Link)
+        × Stands from first (map Item.Subscribe filters.items) log.old.items ids.old wanted.old.wanted link }
+    ensures subscribed { OnOk result ((from : List Bool) (first : List Entry) (link : Link)
+        → Stands from first (map Item.Subscribe filters.items) log.old.items ids.old wanted.old.wanted link
+        → (more : List out_type) × (outs.new ≡ outs.old ++ more)
+        × Subscribed policy.now from first link (map Item.Subscribe filters.items) [] more log.new.items
+        ids.new wanted.new.wanted) }
+    ensures room { wanted.new.room ≡ wanted.old.room }
+    ensures logged { (from : List Bool) (first : List Entry) (link : Link)
+        → Stands from first (map Item.Subscribe filters.items) log.old.items ids.old wanted.old.wanted link
+        → Logged from first log.new.items ids.new.marks wanted.new.wanted }
+{
+    for filter in filters {
+        leave_filter(alloc, policy, ids, wanted, filter, outs, log)?;
+    }
+    Ok(())
 }
 
 /// A publish in flight under this packet id is judged, with a note, and behind the note of an allowed one its
@@ -193,11 +245,13 @@ fn sent_again(
     ensures stays { IfOk result (λ stays. stays
         ≡ is_allowed (exit policy.now publication.now.origin publication.now.name)) }
 {
+    // The outcome comes last, and so it is owned at no way out.
     let name = &publication.name;
+    let shown = name.copy()?;
+    let origin = publication.origin.copy()?;
     let outcome = exit(alloc, policy, &publication.origin, name)?;
     let is_allowed = outcome.is_allowed();
-    let who = Who::from(publication.origin.copy()?);
-    outs.push(Out::Note(Decision::Again(who, name.copy()?, outcome)))?;
+    outs.push(Out::Note(Decision::Again(Who::from(origin), shown, outcome)))?;
     if is_allowed {
         let packet = packet_of(alloc, publication, Some(packet_id))?;
         outs.push(Out::Wire(packet))?;

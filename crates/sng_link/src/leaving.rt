@@ -79,6 +79,34 @@ pub fn leave(
     Ok(())
 }
 
+/// The same of a SUBSCRIBE of the filter. The item is made and dropped here, and so it is owned at no way out of
+/// those that send many.
+pub fn leave_filter(
+    alloc: Global,
+    policy: &InForce,
+    ids: &mut PacketIds,
+    wanted: &mut Wanted,
+    filter: TopicFilter,
+    outs: &mut Outs,
+    log: &mut Vec<Step>,
+) -> Result<(), AllocError>
+    requires { NextIsFree ids.old wanted.old.wanted }
+    ensures left { OnOk result (LeftBy policy.now (Item.Subscribe filter) outs.old outs.new log.old.items
+        log.new.items ids.old ids.new wanted.old wanted.new) }
+    ensures err { OnErr result ((log.new.items ≡ log.old.items) × (ids.new ≡ ids.old)
+        × (wanted.new ≡ wanted.old)) }
+{
+    leave(
+        alloc,
+        policy,
+        ids,
+        wanted,
+        &Item::Subscribe(filter),
+        outs,
+        log,
+    )
+}
+
 /// An item leaves by this step: its packet id is used up, and where an answer to it is waited for it is in
 /// use. That of a SUBSCRIBE is the open one of its filter, and the former one is free (3.8 and 3.10).
 fn go(ids: &mut PacketIds, wanted: &mut Wanted, item: &Item, step: &Step)
@@ -102,6 +130,7 @@ fn go(ids: &mut PacketIds, wanted: &mut Wanted, item: &Item, step: &Step)
 }
 
 /// A SUBSCRIBE of the filter leaves by this step, or is owed.
+#[inline(never)]
 fn go_subscribe(ids: &mut PacketIds, wanted: &mut Wanted, filter: &TopicFilter, step: &Step)
     requires { IsStep wanted.old.wanted (Item.Subscribe filter.now) step.now }
     ensures ids { ids.new ≡ record ids.old { marks = forth_marks ids.old.marks step.now } }
@@ -200,6 +229,7 @@ fn step_under(packet_id: Option<u16>) -> Step
 }
 
 /// A SUBSCRIBE has to leave where its filter is wanted (3.8).
+#[inline(never)]
 fn subscribes(
     alloc: Global,
     wanted: &Wanted,
@@ -264,6 +294,7 @@ fn owed_step(wanted: &Wanted, filter: &TopicFilter) -> Result<Step, AllocError>
 }
 
 /// An UNSUBSCRIBE goes out where its filter is not wanted (3.10). Nothing waits for its answer.
+#[inline(never)]
 fn unsubscribes(
     alloc: Global,
     wanted: &Wanted,
@@ -300,11 +331,13 @@ fn forwarded(
     ensures packet_id { IfOk result (λ packet_id. packet_id
         ≡ flight_id publication.now.qos next (exit policy.now publication.now.origin publication.now.name)) }
 {
+    // The outcome comes last, and so it is owned at no way out.
     let name = &publication.name;
+    let shown = name.copy()?;
+    let origin = publication.origin.copy()?;
     let outcome = exit(alloc, policy, &publication.origin, name)?;
     let is_allowed = outcome.is_allowed();
-    let who = Who::from(publication.origin.copy()?);
-    outs.push(Out::Note(Decision::Forward(who, name.copy()?, outcome)))?;
+    outs.push(Out::Note(Decision::Forward(Who::from(origin), shown, outcome)))?;
     if !is_allowed {
         return Ok(None);
     }
@@ -324,6 +357,7 @@ fn id_at(qos: Qos, next: u16) -> Option<u16>
 }
 
 /// The packet of a publish under this packet id, sent for the first time.
+#[inline(always)]
 pub fn packet_of(
     alloc: Global,
     publication: &Publication,

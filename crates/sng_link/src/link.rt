@@ -74,6 +74,7 @@ impl Link {
 
     /// Makes room for so many more items, whatever they are. An `Err` is a failed allocation, which cannot be
     /// while there is room, and nothing changes.
+    #[inline(always)]
     pub fn room(&mut self, count: usize) -> Result<(), AllocError>
         ensures link { self.new.link ≡ self.old.link }
         ensures places { OnOk result (HasPlaces count self.new) }

@@ -11,7 +11,7 @@ ghost use Rattle.sng_link.specs.Flights.{link_of, ids_of, ids_in_use, AreDistinc
 ghost use Rattle.sng_link.specs.Steps.{Logged};
 ghost use Rattle.sng_link.specs.Taking.{flight, flights, Stands, Subscribed};
 
-use crate::leaving::{leave, plan};
+use crate::leaving::{leave_filter, plan};
 use crate::step::{Step, undo};
 use sng_book::{Outs, OutsPair};
 use sng_history::MAX_OPEN_SUBSCRIBES;
@@ -125,15 +125,7 @@ fn leave_owed(
         let Some(filter) = owed else {
             return Ok(());
         };
-        leave(
-            alloc,
-            policy,
-            ids,
-            wanted,
-            &Item::Subscribe(filter),
-            outs,
-            log,
-        )?;
+        leave_filter(alloc, policy, ids, wanted, filter, outs, log)?;
     }
     Ok(())
 }

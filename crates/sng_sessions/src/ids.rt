@@ -10,9 +10,15 @@ use std::alloc::{AllocError, Global};
 use std::marker::Model;
 
 /// A name that a client is to be told an id of, with the memory for all ids that it may be told: so to tell it
-/// takes none. Contracts see the name.
+/// takes none. It lies apart, since few messages announce one, and what each of them opens is small then.
+/// Contracts see the name.
 #[derive(Debug, Drop)]
 pub struct NewName {
+    held: Box<Named, Global>,
+}
+
+#[derive(Debug, Drop)]
+struct Named {
     name: TopicName,
     /// No ids, with room for as many as may be.
     table: IdTable,
@@ -24,9 +30,9 @@ impl Model for NewName {
 
     ghost Value = { List ℕ };
 
-    ghost view = { λ n. n.name };
+    ghost view = { λ n. n.held.value.name };
 
-    ghost invariant = { λ n. (n.table.ids ≡ []) × (MAX_TOPIC_IDS ≤ n.table.spare) };
+    ghost invariant = { λ n. (n.held.value.table.ids ≡ []) × (MAX_TOPIC_IDS ≤ n.held.value.table.spare) };
 }
 
 impl NewName {
@@ -36,14 +42,15 @@ impl NewName {
     {
         let mut table = IdTable::new(alloc);
         table.room(MAX_TOPIC_IDS)?;
-        Ok(NewName { name, table })
+        let held = Box::new(alloc, Named { name, table })?;
+        Ok(NewName { held })
     }
 
     /// The name.
     pub fn name(&self) -> &TopicName
         ensures { result.now ≡ self.now }
     {
-        &self.name
+        &self.held.name
     }
 
     /// The name, and the table with room for all ids.
@@ -52,7 +59,8 @@ impl NewName {
         ensures empty { result.1.ids ≡ [] }
         ensures room { MAX_TOPIC_IDS ≤ result.1.spare }
     {
-        (self.name, self.table)
+        let Named { name, table } = Box::into_inner(self.held);
+        (name, table)
     }
 }
 

@@ -1,6 +1,6 @@
 //! The turn of one message for a client (MQTT-SN 1.2, 5.4.10, 5.4.12, 6.5, 6.6 and 6.10; RFC 9431, 2.3): it
 //! is judged by the policy in force, and what comes of it goes out.
-ghost use Rattle.std.specs.Prelude.{◌≡◌, ◌≤◌, ◌∷◌, ◌++◌, [], length, IfOk, OnOk};
+ghost use Rattle.std.specs.Prelude.{◌≡◌, ◌≤◌, ◌∷◌, ◌++◌, [], None, length, IfOk, OnOk};
 ghost use Rattle.sng_queue.specs.Messages.{message};
 ghost use Rattle.sng_queue.specs.declared.limits.TheConstants.{MAX_WAITING_NAME, MAX_WAITING_PAYLOAD};
 ghost use Rattle.sng_history.specs.Handing.{handed_again, handed_out, msg_id_of, publish_flags, frame_qos};
@@ -89,6 +89,25 @@ fn offer(
         outs.push(out)?;
         return Ok(awaiting(mail.qos, known));
     }
+    introduce(alloc, to, mail, outs)
+}
+
+/// The turn of a message that the client may receive and whose name it does not know: an id is announced while
+/// there is one. It stands apart, since most messages have no need of its values.
+#[inline(never)]
+fn introduce(
+    alloc: Global,
+    to: Recipient<'_>,
+    mail: Mail<'_>,
+    outs: &mut Outs,
+) -> Result<Opens, AllocError>
+    requires name { length mail.name.now ≤ MAX_WAITING_NAME }
+    ensures outs { OnOk result (outs.new ≡ outs.old
+        ++ offer_outs to.entry.id.now to.entry.address to.entry.ids.now to.entry.number
+        (mail_of mail.entry) None) }
+    ensures opens { IfOk result (λ opens. opens
+        ≡ offer_opens to.entry.ids.now (mail_of mail.entry) None) }
+{
     if to.ids.is_full_for(mail.name) {
         let full = Outcome::Denied(Denial::Room(RoomDenial::Full(Place::Ids)));
         note_hand(to.id, mail.name, full, outs)?;
@@ -113,6 +132,7 @@ fn awaiting(qos: Qos, known: KnownId) -> Opens
 }
 
 /// The note of how a message for the client came out.
+#[inline(always)]
 pub fn note_hand(
     id: &ClientId,
     name: &TopicName,

@@ -2,6 +2,7 @@
 ghost use Rattle.std.specs.Prelude.{◌≡◌, IfOk};
 ghost use Rattle.sng_sessions.specs.Places.{client_of};
 
+use crate::refusal::out_of_memory;
 use crate::session::{Presence, Session};
 use sng_fan::Held;
 use sng_ids::IdTable;
@@ -56,14 +57,27 @@ impl ClientCopy {
     ) -> Result<ClientCopy, AllocError>
         ensures { IfOk result (λ copy. copy ≡ client_of (id.now, session.now)) }
     {
+        let id = id.copy()?;
+        let Ok(ids) = session.ids.copy() else {
+            return out_of_memory(id);
+        };
+        let Ok(queue) = session.queue.copy(alloc) else {
+            return out_of_memory((id, ids));
+        };
+        let Ok(filters) = session.filters.copy(alloc) else {
+            return out_of_memory((id, ids, queue));
+        };
+        let Ok(wills) = session.wills.copy() else {
+            return out_of_memory((id, ids, queue, filters));
+        };
         Ok(ClientCopy {
-            id: id.copy()?,
+            id,
             presence: session.presence,
-            ids: session.ids.copy()?,
+            ids,
             number: session.number,
-            queue: session.queue.copy(alloc)?,
-            filters: session.filters.copy(alloc)?,
-            wills: session.wills.copy()?,
+            queue,
+            filters,
+            wills,
             unreleased: session.unreleased.copy(),
         })
     }

@@ -19,9 +19,10 @@ subscribe_all-requires c =
       resumed (link_of c.args.outbox.now.sending c.args.ids.now c.args.wanted.now.wanted 0) 0
           (agains_of c.args.policy.now c.args.outbox.now.sending.in_flight),
       begins c.args.policy.now c.args.outbox.now.sending c.args.ids.now c.free_all.new.ids
-          c.args.wanted.now.wanted 0 0 c.judge.new.log.items c.in_ok-filters.filters.items c.requires.marked
+          c.args.wanted.now.wanted 0 0 c.in_ok-resent.resent.log.items c.in_ok-filters.filters.items
+          c.requires.marked
           c.len-stand.ensures.once c.requires.closed c.opens-opens.ensures.few small c.requires.few
-          (rw c.tidy.ensures at c.in_ok-denied.ensures.log)
+          (rw c.tidy.ensures at c.in_ok-resent.ensures.log)
           (rw c.as_slice.ensures.value at c.free_all.ensures),
     )
 
@@ -33,9 +34,10 @@ undo-requires c =
     (agains_of c.args.policy.now c.args.outbox.now.sending.in_flight) in
     let stands =
     begins c.args.policy.now c.args.outbox.now.sending c.args.ids.now c.free_all.new.ids
-    c.args.wanted.now.wanted 0 0 c.judge.new.log.items c.in_ok-filters.filters.items c.requires.marked
+    c.args.wanted.now.wanted 0 0 c.in_ok-resent.resent.log.items c.in_ok-filters.filters.items
+    c.requires.marked
     c.len-stand.ensures.once c.requires.closed c.opens-opens.ensures.few small c.requires.few
-    (rw c.tidy.ensures at c.in_ok-denied.ensures.log)
+    (rw c.tidy.ensures at c.in_ok-resent.ensures.log)
     (rw c.as_slice.ensures.value at c.free_all.ensures) in
     let logged = c.in-Err.ensures.logged c.args.ids.now.marks c.args.wanted.now.wanted link stands in
     logged.can
@@ -51,9 +53,10 @@ returns-in-Ok-clause-outs c clock pinged =
     (agains_of c.args.policy.now c.args.outbox.now.sending.in_flight) in
     let stands =
     begins c.args.policy.now c.args.outbox.now.sending c.args.ids.now c.free_all.new.ids
-    c.args.wanted.now.wanted pinged clock c.judge.new.log.items c.in_ok-filters.filters.items c.requires.marked
+    c.args.wanted.now.wanted pinged clock c.in_ok-resent.resent.log.items c.in_ok-filters.filters.items
+    c.requires.marked
     c.len-stand.ensures.once c.requires.closed c.opens-opens.ensures.few small c.requires.few
-    (rw c.tidy.ensures at c.in_ok-denied.ensures.log)
+    (rw c.tidy.ensures at c.in_ok-resent.ensures.log)
     (rw c.as_slice.ensures.value at c.free_all.ensures) in
     let done =
     c.in-Ok.ensures.subscribed c.args.ids.now.marks c.args.wanted.now.wanted link stands in
@@ -61,8 +64,7 @@ returns-in-Ok-clause-outs c clock pinged =
     let all : AllWanted c.args.wanted.now.wanted c.in_ok-filters.filters.items =
     rw filters (all_wanted c.args.wanted.now.wanted) in
     done.1
-    ∙ ap (λ l. l ++ done.0) ((rw c.tidy.ensures at c.in_ok-denied.ensures.outs)
-    ∙ ap (λ l. l ++ again) c.in_ok-outs.ensures)
+    ∙ ap (λ l. l ++ done.0) (rw c.tidy.ensures at c.in_ok-resent.ensures.outs)
     ∙ ap (λ l. again ++ l) (outs_begun c.args.policy.now c.args.ids.now.marks c.args.wanted.now.wanted link
     c.in_ok-filters.filters.items done.0 c.subscribe_all.new.log.items c.subscribe_all.new.ids
     c.subscribe_all.new.wanted.wanted done.2 all ∙ ap (λ f. subscribing link f) filters)
@@ -75,9 +77,10 @@ returns-in-Ok-clause-after c clock pinged =
     (agains_of c.args.policy.now c.args.outbox.now.sending.in_flight) in
     let stands =
     begins c.args.policy.now c.args.outbox.now.sending c.args.ids.now c.free_all.new.ids
-    c.args.wanted.now.wanted pinged clock c.judge.new.log.items c.in_ok-filters.filters.items c.requires.marked
+    c.args.wanted.now.wanted pinged clock c.in_ok-resent.resent.log.items c.in_ok-filters.filters.items
+    c.requires.marked
     c.len-stand.ensures.once c.requires.closed c.opens-opens.ensures.few small c.requires.few
-    (rw c.tidy.ensures at c.in_ok-denied.ensures.log)
+    (rw c.tidy.ensures at c.in_ok-resent.ensures.log)
     (rw c.as_slice.ensures.value at c.free_all.ensures) in
     let done =
     c.in-Ok.ensures.subscribed c.args.ids.now.marks c.args.wanted.now.wanted link stands in
@@ -88,7 +91,7 @@ returns-in-Ok-clause-after c clock pinged =
     still_allowed c.args.policy.now c.args.outbox.now.sending.in_flight
     c.forget_all.new.outbox.sending.in_flight c.as_slice-in-Ok.result.now
     (distinct_left (ids_of c.args.outbox.now.sending.in_flight) _ c.requires.marked.distinct)
-    (c.as_slice-in-Ok.ensures.value ∙ (rw c.tidy.ensures at c.in_ok-denied.ensures.denied))
+    (c.as_slice-in-Ok.ensures.value ∙ (rw c.tidy.ensures at c.in_ok-resent.ensures.denied))
     (ap (λ (o : SendingRoom). o.sending.in_flight) (rw c.tidy.ensures at c.forget_all.ensures)) in
     link_begun c.args.policy.now c.args.ids.now.marks c.args.wanted.now.wanted link
     c.in_ok-filters.filters.items done.0 c.subscribe_all.new.log.items c.subscribe_all.new.ids
@@ -104,9 +107,10 @@ returns-in-Ok-clause-marked c =
     (agains_of c.args.policy.now c.args.outbox.now.sending.in_flight) in
     let stands =
     begins c.args.policy.now c.args.outbox.now.sending c.args.ids.now c.free_all.new.ids
-    c.args.wanted.now.wanted 0 0 c.judge.new.log.items c.in_ok-filters.filters.items c.requires.marked
+    c.args.wanted.now.wanted 0 0 c.in_ok-resent.resent.log.items c.in_ok-filters.filters.items
+    c.requires.marked
     c.len-stand.ensures.once c.requires.closed c.opens-opens.ensures.few small c.requires.few
-    (rw c.tidy.ensures at c.in_ok-denied.ensures.log)
+    (rw c.tidy.ensures at c.in_ok-resent.ensures.log)
     (rw c.as_slice.ensures.value at c.free_all.ensures) in
     let done =
     c.in-Ok.ensures.subscribed c.args.ids.now.marks c.args.wanted.now.wanted link stands in
@@ -114,7 +118,7 @@ returns-in-Ok-clause-marked c =
     still_allowed c.args.policy.now c.args.outbox.now.sending.in_flight
     c.forget_all.new.outbox.sending.in_flight c.as_slice-in-Ok.result.now
     (distinct_left (ids_of c.args.outbox.now.sending.in_flight) _ c.requires.marked.distinct)
-    (c.as_slice-in-Ok.ensures.value ∙ (rw c.tidy.ensures at c.in_ok-denied.ensures.denied))
+    (c.as_slice-in-Ok.ensures.value ∙ (rw c.tidy.ensures at c.in_ok-resent.ensures.denied))
     (ap (λ (o : SendingRoom). o.sending.in_flight) (rw c.tidy.ensures at c.forget_all.ensures)) in
     marked_begun c.args.policy.now c.args.ids.now.marks c.args.wanted.now.wanted link
     c.in_ok-filters.filters.items done.0 c.subscribe_all.new.log.items c.subscribe_all.new.ids
@@ -128,9 +132,10 @@ returns-in-Ok-clause-closed c =
     (agains_of c.args.policy.now c.args.outbox.now.sending.in_flight) in
     let stands =
     begins c.args.policy.now c.args.outbox.now.sending c.args.ids.now c.free_all.new.ids
-    c.args.wanted.now.wanted 0 0 c.judge.new.log.items c.in_ok-filters.filters.items c.requires.marked
+    c.args.wanted.now.wanted 0 0 c.in_ok-resent.resent.log.items c.in_ok-filters.filters.items
+    c.requires.marked
     c.len-stand.ensures.once c.requires.closed c.opens-opens.ensures.few small c.requires.few
-    (rw c.tidy.ensures at c.in_ok-denied.ensures.log)
+    (rw c.tidy.ensures at c.in_ok-resent.ensures.log)
     (rw c.as_slice.ensures.value at c.free_all.ensures) in
     let done =
     c.in-Ok.ensures.subscribed c.args.ids.now.marks c.args.wanted.now.wanted link stands in
@@ -148,9 +153,10 @@ returns-in-Err-clause-marked c =
     (agains_of c.args.policy.now c.args.outbox.now.sending.in_flight) in
     let stands =
     begins c.args.policy.now c.args.outbox.now.sending c.args.ids.now c.free_all.new.ids
-    c.args.wanted.now.wanted 0 0 c.judge.new.log.items c.in_ok-filters.filters.items c.requires.marked
+    c.args.wanted.now.wanted 0 0 c.in_ok-resent.resent.log.items c.in_ok-filters.filters.items
+    c.requires.marked
     c.len-stand.ensures.once c.requires.closed c.opens-opens.ensures.few small c.requires.few
-    (rw c.tidy.ensures at c.in_ok-denied.ensures.log)
+    (rw c.tidy.ensures at c.in_ok-resent.ensures.log)
     (rw c.as_slice.ensures.value at c.free_all.ensures) in
     let logged = c.in-Err.ensures.logged c.args.ids.now.marks c.args.wanted.now.wanted link stands in
     rw (c.undo.ensures.marks, logged.marks_back, c.undo.ensures.wanted, logged.wanted_back)
@@ -164,9 +170,10 @@ returns-in-Err-clause-closed c =
     (agains_of c.args.policy.now c.args.outbox.now.sending.in_flight) in
     let stands =
     begins c.args.policy.now c.args.outbox.now.sending c.args.ids.now c.free_all.new.ids
-    c.args.wanted.now.wanted 0 0 c.judge.new.log.items c.in_ok-filters.filters.items c.requires.marked
+    c.args.wanted.now.wanted 0 0 c.in_ok-resent.resent.log.items c.in_ok-filters.filters.items
+    c.requires.marked
     c.len-stand.ensures.once c.requires.closed c.opens-opens.ensures.few small c.requires.few
-    (rw c.tidy.ensures at c.in_ok-denied.ensures.log)
+    (rw c.tidy.ensures at c.in_ok-resent.ensures.log)
     (rw c.as_slice.ensures.value at c.free_all.ensures) in
     let logged = c.in-Err.ensures.logged c.args.ids.now.marks c.args.wanted.now.wanted link stands in
     rw (c.undo.ensures.wanted, logged.wanted_back) c.requires.closed
@@ -183,9 +190,10 @@ returns-in-Err-clause-err c =
     (agains_of c.args.policy.now c.args.outbox.now.sending.in_flight) in
     let stands =
     begins c.args.policy.now c.args.outbox.now.sending c.args.ids.now c.free_all.new.ids
-    c.args.wanted.now.wanted 0 0 c.judge.new.log.items c.in_ok-filters.filters.items c.requires.marked
+    c.args.wanted.now.wanted 0 0 c.in_ok-resent.resent.log.items c.in_ok-filters.filters.items
+    c.requires.marked
     c.len-stand.ensures.once c.requires.closed c.opens-opens.ensures.few small c.requires.few
-    (rw c.tidy.ensures at c.in_ok-denied.ensures.log)
+    (rw c.tidy.ensures at c.in_ok-resent.ensures.log)
     (rw c.as_slice.ensures.value at c.free_all.ensures) in
     let logged = c.in-Err.ensures.logged c.args.ids.now.marks c.args.wanted.now.wanted link stands in (
       c.tidy.ensures,

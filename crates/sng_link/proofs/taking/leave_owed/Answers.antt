@@ -27,8 +27,8 @@ loop-turn-init c = record {
   );
 }
 
-pub leave-requires : goal.leave-requires
-leave-requires c next follows =
+pub leave_filter-requires : goal.leave_filter-requires
+leave_filter-requires c next follows =
     let stands = c.requires in
     let before = c.loop-turn.invariant.so_far stands.0 stands.1 stands.2 stands.3 in
     rw c.next_owed.ensures.same (stands_free _ _ _ _ _ _ _ before.2.stands next follows)
@@ -42,20 +42,20 @@ loop-turn-preserved c =
     omega (arith, opens, within) in
     let there : first_owed c.loop-turn.wanted.wanted ≡ Some c.in-Some.filter =
     sym c.in_ok-owed.ensures.first ∙ c.in-Some.is in
-    let gone = rw c.next_owed.ensures.same at c.in_ok-leave.ensures.left in
+    let gone = rw c.next_owed.ensures.same at c.in_ok-leave_filter.ensures.left in
     let stands = c.requires in
     let now = inv.so_far stands.0 stands.1 stands.2 stands.3 in
     record {
       opens =
-          opens_one c.args.policy.now c.in-Some.filter c.loop-turn.outs c.leave.new.outs
-          c.loop-turn.log.items c.leave.new.log.items c.loop-turn.ids c.leave.new.ids c.loop-turn.wanted
-          c.leave.new.wanted there now.2.stands.once now.2.stands.closed few gone ∙ ap (λ k. k + 1) opens;
+          opens_one c.args.policy.now c.in-Some.filter c.loop-turn.outs c.leave_filter.new.outs
+          c.loop-turn.log.items c.leave_filter.new.log.items c.loop-turn.ids c.leave_filter.new.ids c.loop-turn.wanted
+          c.leave_filter.new.wanted there now.2.stands.once now.2.stands.closed few gone ∙ ap (λ k. k + 1) opens;
       room = ap (λ (w : WantedRoom). w.room) gone.wanted_is ∙ inv.room;
       so_far = λ from first link stands.
           let before = inv.so_far from first link stands in
           owed_step c.args.policy.now from first link (outgoing link) c.in-Some.filter link.waiting
-          c.args.outs.now c.loop-turn.outs c.leave.new.outs before.0 c.loop-turn.log.items
-          c.leave.new.log.items c.loop-turn.ids c.leave.new.ids c.loop-turn.wanted c.leave.new.wanted
+          c.args.outs.now c.loop-turn.outs c.leave_filter.new.outs before.0 c.loop-turn.log.items
+          c.leave_filter.new.log.items c.loop-turn.ids c.leave_filter.new.ids c.loop-turn.wanted c.leave_filter.new.wanted
           before.1 before.2 there few gone;
     }
 
@@ -64,10 +64,10 @@ returns-in_err-owed-clause-logged c from first link stands =
     let before = c.loop-turn.invariant.so_far from first link stands in
     rw c.next_owed.ensures.same before.2.stands.logged
 
-pub returns-in_err-leave-clause-logged : goal.returns-in_err-leave-clause-logged
-returns-in_err-leave-clause-logged c from first link stands =
+pub returns-in_err-leave_filter-clause-logged : goal.returns-in_err-leave_filter-clause-logged
+returns-in_err-leave_filter-clause-logged c from first link stands =
     let before = c.loop-turn.invariant.so_far from first link stands in
-    let same = c.in_err-leave.ensures.err in
+    let same = c.in_err-leave_filter.ensures.err in
     rw (same.0, same.1, same.2, c.next_owed.ensures.same) before.2.stands.logged
 
 pub returns-in_default-clause-subscribed : goal.returns-in_default-clause-subscribed

@@ -3,7 +3,7 @@ use Rattle.sng_outbox.specs.declared.item.Item.TheVariants.{Subscribe}
 use Rattle.sng_book.specs.declared.out.Out.{Out}
 use Rattle.sng_history.specs.Links.{Link, Wanted}
 use Rattle.sng_link.specs.Taking.{Stands, Subscribed}
-use Rattle.sng_link.proofs.again.subscribe_all.Given as goal
+use Rattle.sng_link.proofs.again.subscribe_each.Given as goal
 
 abbrev pub invariant-loop-filter : goal.invariant-loop-filter
 invariant-loop-filter l = record {

@@ -5,6 +5,8 @@ ghost use Rattle.std.specs.Prelude.{IsErr};
 use std::alloc::AllocError;
 
 /// Memory was refused, and this is dropped.
+#[cold]
+#[inline(never)]
 pub fn out_of_memory<T, L: Drop>(_left: L) -> Result<T, AllocError>
     ensures { IsErr result }
 {
