@@ -20,6 +20,7 @@ pub fn size(number: usize) -> usize
 }
 
 /// The front of a packet: its first byte and its Remaining Length, with room for so many bytes behind them.
+#[inline(always)]
 pub fn front(alloc: Global, first: u8, rest: usize) -> Result<Vec<u8>, AllocError>
     requires { rest + rest / 128 + 3 < 2 ^ 64 }
     ensures { IfOk result (λ v. v.items ≡ first ∷ remaining_length rest) }

@@ -96,6 +96,7 @@ impl Player {
 
     /// Takes a piece of the broker's bytes: a step for each packet that is whole with it, and what comes of
     /// the fault behind them.
+    #[inline(never)]
     fn take_piece(&mut self, piece: &[u8]) -> Result<(), Obstacle>
         requires { self.old.text.items ≡ [] }
         ensures ok { OnOk result (Comes (standing self.old) (Line.Broker piece.now) self.new.text.items
@@ -125,6 +126,8 @@ impl Player {
     }
 
     /// Tells of a fault of the broker's bytes, with which the connection is lost.
+    #[cold]
+    #[inline(never)]
     fn lose(&mut self, fault: StreamFault) -> Result<(), Obstacle>
         ensures ok { OnOk result (Adds (standing self.old) (fault_deeds (Some fault))
             self.old.text.items self.new.text.items (standing self.new)) }

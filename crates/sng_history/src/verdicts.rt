@@ -15,6 +15,7 @@ use sng_text::{ClientId, TopicFilter, TopicName};
 use std::alloc::{AllocError, Global};
 
 /// The judgement of a publish under the name, as it is asked for and again as it leaves.
+#[inline(always)]
 pub fn exit(
     alloc: Global,
     policy: &InForce,
@@ -36,6 +37,7 @@ pub fn exit(
 }
 
 /// The judgement of a message for the client under the name.
+#[inline(always)]
 pub fn receive(
     alloc: Global,
     policy: &InForce,
@@ -49,6 +51,7 @@ pub fn receive(
 
 /// The judgement of a message for the client under the name, by the scope that the policy in force gives it.
 /// For one message after another the scope is found once.
+#[inline(always)]
 pub fn receive_by(
     alloc: Global,
     scope: Option<&Scope>,
@@ -76,6 +79,7 @@ pub fn coverage(
 }
 
 /// What a policy answers about a name to an ask for the permission, by a client or else by a source.
+#[inline(always)]
 fn name_outcome(
     alloc: Global,
     needed: Permission,

@@ -49,6 +49,7 @@ pub fn may_receive(policy: &Policy, client: &ClientId, name: &TopicName, clock: 
 }
 
 /// What the scope of who asks for the permission says about the name, where there is one. Takes no memory.
+#[inline(always)]
 pub fn grant_by(permission: Permission, scope: Option<&Scope>, name: &TopicName) -> NameGrant
     ensures { result ≡ grant_by permission (option_copied scope.entry) name.now }
 {

@@ -49,6 +49,7 @@ pub fn line_of(alloc: Global, line: &[u8]) -> Result<Line, LineFault>
 }
 
 /// What a line of one word says, or of none.
+#[inline(never)]
 fn word_line(word: &[u8]) -> Option<Line>
     ensures { result ≡ word_line word.now }
 {
@@ -84,6 +85,8 @@ fn words_line(alloc: Global, word: &[u8], rest: &[u8]) -> Result<Line, LineFault
 }
 
 /// The policy of the text is in force from now on, or it is refused. Only memory can fail.
+#[cold]
+#[inline(never)]
 fn policy_line(alloc: Global, text: &[u8]) -> Result<Line, LineFault>
     ensures ok { IfOk result (λ said. said ≡ policy_line (policy_of text.now)) }
     ensures err { IfErr result (λ fault. fault ≡ LineFault.Memory) }
@@ -111,6 +114,7 @@ fn from_line(alloc: Global, words: &[u8]) -> Result<Line, LineFault>
 }
 
 /// A piece of bytes came from the broker.
+#[inline(never)]
 fn broker_line(alloc: Global, digits: &[u8]) -> Result<Line, LineFault>
     ensures ok { IfOk result (λ said. broker_line digits.now ≡ Some said) }
     ensures err { IfErr result (λ fault. fault ≡ fault_of (broker_line digits.now)) }
@@ -120,6 +124,7 @@ fn broker_line(alloc: Global, digits: &[u8]) -> Result<Line, LineFault>
 }
 
 /// The clock is at this many ms.
+#[inline(never)]
 fn tick_line(digits: &[u8]) -> Option<Line>
     ensures { result ≡ tick_line digits.now }
 {

@@ -55,6 +55,7 @@ pub(crate) fn size(publish: &Publish) -> usize
 }
 
 /// The datagram of a PUBLISH of these fields, whose data are lent. Allocates once, and copies the data once.
+#[inline(always)]
 pub fn write_publish(
     alloc: Global,
     flags: Flags,

@@ -32,6 +32,7 @@ pub(crate) fn frame(
 }
 
 /// The three slices, one after the other.
+#[inline(always)]
 fn join(alloc: Global, front: &[u8], head: &[u8], tail: &[u8]) -> Result<Vec<u8>, AllocError>
     requires { length front.now + length head.now + length tail.now ≤ MAX_DATAGRAM }
     ensures { IfOk result (λ v. v.items ≡ front.now ++ head.now ++ tail.now) }
