@@ -144,7 +144,7 @@ def one_by_one():
     lines += [packet_lines(octets, given) for octets in PACKETS for given in (octets, pieces(octets))]
     text, printed = [''.join(line[place] + '\n' for line in lines).encode() for place in (0, 1)]
     rows = [made for _, _, made in lines]
-    return Input(ONE_BY_ONE, text, printed, rows, {call for made in rows for call in made}, 335)
+    return Input(ONE_BY_ONE, text, printed, rows, {call for made in rows for call in made}, 400)
 
 
 def plays(letter, text, printed, most):
@@ -182,7 +182,7 @@ def inputs(most_scripts):
     """The inputs by their names: those that the gate tries as a whole, and the others."""
     each = refused_kinds.every_kind()
     printed = gateway_model.play(each)[1]
-    whole = {'steps of each kind': plays(STEPS, each, printed, 790), 'calls': one_by_one(),
+    whole = {'steps of each kind': plays(STEPS, each, printed, 900), 'calls': one_by_one(),
              'a ledger': plays(LEDGER, TICKS, gateway_model.play(TICKS)[1], 50)}
     drawn = {'acts of each kind': plays(ACTS, each, printed, 1250),
              'a run of each kind': plays(RUN, each, printed, 1250)}
