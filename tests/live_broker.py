@@ -1,5 +1,6 @@
 """Cases of tests/live.py: brokers in Python that fail in ways of their own. Each speaks as little MQTT 3.1.1
 as its case needs."""
+import itertools
 import os
 import socket
 import threading
@@ -145,7 +146,8 @@ def payload(number):
 
 
 class Sender:
-    """A device that publishes on and on, more MB than the system keeps for a broker that does not read."""
+    """A device that publishes on and on, at most 3 MB a second: more than the system keeps for a broker that does
+    not read, however much that is."""
 
     def __init__(self, device):
         self.device = device
@@ -161,7 +163,7 @@ class Sender:
         self.thread.join(SECONDS)
 
     def run(self):
-        for number in range(10000):
+        for number in itertools.count():
             if number % 16 == 0 and self.stop.wait(0.01):
                 return
             body = b'\x0c\x62ab\0\0' + payload(number)
@@ -206,7 +208,7 @@ def a_broker_that_reads_late(room):
         gateway.line('err', 'connected')
         size = len(payload(0))
         with Sender(room.device(gateway)):
-            until(lambda: is_blocked(gateway), 'a write that waits')
+            until(lambda: is_blocked(gateway), 'a write that waits', 3 * SECONDS)
             time.sleep(SECONDS * 0.5)
             numbers = numbers_of(stream, lambda found: len(found) * size > 4000000)
         wanted(numbers[0] == 0, 'all from the first on, and not from %d' % numbers[0])

@@ -287,7 +287,7 @@ def a_broker_that_stops_reading(room):
         begun = time.monotonic()
         served.gateway.say('verbose off')
         with Sender(room.device(served.gateway)):
-            until(lambda: is_blocked(served.gateway), 'a write that waits')
+            until(lambda: is_blocked(served.gateway), 'a write that waits', 3 * SECONDS)
         served.is_served()
         served.gateway.line('err', 'lost: the broker took nothing in 10 s', seconds=3 * SECONDS)
         measured('a broker that stops reading: lost after %.1f s' % (time.monotonic() - begun))
