@@ -10,7 +10,7 @@ use Rattle.std.proofs.lemmas.List.Sorted.{searchable_from_sorted}
 use Rattle.std.proofs.lemmas.List.Sums.{position_or_len_is}
 use Rattle.std.specs.BTreeMap.{insert_entry}
 use Rattle.std.specs.Cmp.{IsTotalOrder, alike_right}
-use Rattle.std.specs.List.{AllByRecursion, position_or_len}
+use Rattle.std.specs.List.{AllByRecursion, position_or_len, slice_get}
 use Rattle.std.specs.List.Sorted.{IsStrictlySortedBy, IsNonDecreasingBy, IsPartitionPoint}
 use Rattle.std.specs.Map.{keys_of, lookup}
 use Rattle.std.specs.Result.{OnOk, OnErr}
@@ -27,6 +27,14 @@ pub lookup-same : {K V : Type 0} (one other : K → Bool) → ((k : K) → one k
 lookup-same one other same [] = refl
 lookup-same one other same (e ∷ es) =
     λ i. cond (same e.0 i) (Some e.1) (lookup-same one other same es i)
+
+-- a list of one entry at most is looked up by a comparison with that
+pub lookup-one : {K V : Type 0} (test : K → Bool) (es : List (K × V)) (one : K × V) → length es ≤ 1
+    → slice_get es 0 ≡ Some one → lookup test es ≡ cond (test one.0) (Some one.1) None
+lookup-one test [] one few at = cc
+lookup-one test (e ∷ []) one few at =
+    let same : e ≡ one = cc in ap (λ e. cond (test e.0) (Some e.1) None) same
+lookup-one test (e ∷ f ∷ es) one few at = absurd (omega (arith, few))
 
 -- ---- what a filter leaves
 

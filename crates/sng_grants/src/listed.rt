@@ -95,7 +95,7 @@ impl<K: Ord + Hash + Drop, V: Drop, const MOST: usize> Listed<K, V, MOST> {
     {
         match &self.entries {
             None => None,
-            Some(entries) => entries.get(key),
+            Some(entries) => found(entries, key),
         }
     }
 
@@ -127,6 +127,17 @@ impl<K: Ord + Hash + Drop, V: Drop, const MOST: usize> Listed<K, V, MOST> {
             Some(entries) => put(entries, key, value),
         }
     }
+}
+
+/// The value of the key. One entry is compared with the key, which costs less than to look it up by hash.
+fn found<'a, K: Ord + Hash, V>(table: &'a IndexMap<K, V>, key: &K) -> Option<&'a V>
+    ensures { option_copied result ≡ lookup (K.eq key.now) table.now.entries }
+{
+    if table.len() > 1 {
+        return table.get(key);
+    }
+    let (one, value) = table.get_index(0)?;
+    if key == one { Some(value) } else { None }
 }
 
 /// A table of what the tree has, in its order, with no room made for more.

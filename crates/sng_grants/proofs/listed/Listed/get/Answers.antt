@@ -8,7 +8,7 @@ use Rattle.sng_grants.proofs.listed.Listed.get.Goals as goal
 pub returns-in-Some : goal.returns-in-Some
 returns-in-Some g c =
     let here = is_at (g.K.Ord.cmp c.args.key.now) in
-    c.get.ensures.value
+    c.found.ensures
     ∙ lookup-same (g.K.PartialEq.eq c.args.key.now) here (g.met.K.Ord.matches_eq c.args.key.now)
     c.deref.result.now.entries
     ∙ ap (λ table. lookup here table.entries) c.deref.ensures
