@@ -59,7 +59,7 @@ pub fn text_at(bytes: &[u8]) -> Result<(&[u8], &[u8]), PacketFault>
 pub fn octets_of(alloc: Global, bytes: &[u8]) -> Result<Octets, AllocError>
     ensures { IfOk result (λ o. o ≡ bytes.now) }
 {
-    Ok(Octets::from(Vec::from_slice(alloc, bytes)?))
+    Octets::of(alloc, bytes)
 }
 
 /// The weight of a flag that is set.

@@ -178,7 +178,7 @@ fn stated_topic(will: WillTopic) -> StatedTopic
 {
     let WillTopic { flags, topic } = will;
     StatedTopic {
-        topic: TopicName::of_text(topic.into_vec()),
+        topic: TopicName::of_text(topic),
         qos: granted(flags.qos),
         retain: flags.retain,
     }

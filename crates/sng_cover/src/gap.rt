@@ -6,7 +6,7 @@ ghost use Rattle.sng_cover.specs.Candidates.{joined, candidate_levels};
 ghost use Rattle.sng_cover.specs.Left.{levels_left};
 
 use sng_text::bytes::{is_hash, is_plus};
-use sng_text::{Levels, MAX_NAME, TopicFilter, TopicName};
+use sng_text::{Levels, MAX_NAME, Octets, TopicFilter, TopicName};
 use std::alloc::{AllocError, Global};
 
 /// The levels of a candidate that are left to give.
@@ -55,7 +55,7 @@ pub fn gap_name(
         left: depth,
     };
     let text = text_of(alloc, levels)?;
-    Ok(TopicName::of_text(text))
+    Ok(TopicName::of_text(Octets::from(text)))
 }
 
 /// The text with these levels, in memory of its very size.

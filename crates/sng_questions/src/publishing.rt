@@ -6,7 +6,7 @@ ghost use Rattle.sng_questions.specs.Publishing.{lets_publish, matches_topic, ma
 
 use crate::short_name::matches_short;
 use sng_grants::{Pair, Topics};
-use sng_text::{TopicFilter, TopicName, matches};
+use sng_text::{Octets, TopicFilter, TopicName, matches};
 use std::alloc::{AllocError, Global};
 
 /// Whether the pairs let a source publish some name that it can say. Only memory can fail.
@@ -49,7 +49,7 @@ fn is_predefined(alloc: Global, topics: &Topics, filter: &TopicFilter) -> Result
     requires { is_name filter.now ≡ true }
     ensures { IfOk result (λ is. is ≡ matches_topic topics.now filter.now) }
 {
-    let text = Vec::from_slice(alloc, filter.text())?;
+    let text = Octets::of(alloc, filter.text())?;
     let name = TopicName::of_text(text);
     Ok(has_id(topics, &name))
 }

@@ -52,7 +52,7 @@ impl TopicFilter {
         match filter_fault(octets.as_slice()) {
             Some(fault) => Err(RefusedText { fault, octets }),
             None => Ok(TopicFilter {
-                text: Text::of_vec(octets.into_vec()),
+                text: octets.into_text(),
             }),
         }
     }

@@ -1,5 +1,5 @@
-//! Where the bytes of a name, a filter or a client id lie. Most are short, and those lie in line: to make,
-//! copy or drop one takes no memory.
+//! Where the bytes of a name, a filter, a client id or a message lie. Most are short, and those lie in line: to
+//! make, copy or drop one takes no memory.
 ghost use Rattle.std.specs.Prelude.{◌≡◌, ◌<◌, ◌≤◌, All, IfOk, length, vec_len};
 ghost use Rattle.sng_text.specs.Kept.{front_of};
 

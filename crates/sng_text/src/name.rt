@@ -50,18 +50,18 @@ impl TopicName {
         match name_fault(octets.as_slice()) {
             Some(fault) => Err(RefusedText { fault, octets }),
             None => Ok(TopicName {
-                text: Text::of_vec(octets.into_vec()),
+                text: octets.into_text(),
             }),
         }
     }
 
     /// The name with this text, which the caller has shown to be one. Takes no memory.
-    pub fn of_text(text: Vec<u8>) -> TopicName
-        requires { is_name text.items ≡ true }
-        ensures { result ≡ text.items }
+    pub fn of_text(text: Octets) -> TopicName
+        requires { is_name text ≡ true }
+        ensures { result ≡ text }
     {
         TopicName {
-            text: Text::of_vec(text),
+            text: text.into_text(),
         }
     }
 

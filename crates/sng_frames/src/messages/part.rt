@@ -54,5 +54,5 @@ pub(crate) fn client_id(alloc: Global, text: &[u8]) -> Result<ClientId, FrameFau
 pub(crate) fn octets(alloc: Global, part: &[u8]) -> Result<Octets, FrameFault>
     ensures { Reads result (Some part.now) }
 {
-    Ok(Octets::from(Vec::from_slice(alloc, part)?))
+    Ok(Octets::of(alloc, part)?)
 }

@@ -23,7 +23,8 @@ const GATEWAY_INFO: u8 = 0x02;
 /// The MsgType of forwarder encapsulation (5.5).
 const ENCAPSULATED: u8 = 0xfe;
 
-/// The frame that a datagram is. Allocates the copy of the variable part's text or data, and nothing else.
+/// The frame that a datagram is. Allocates the copy of the variable part's text or data, where that is long, and
+/// nothing else.
 ///
 /// `Malformed`: it has more than `MAX_DATAGRAM` octets, or its Length is not its size, or its variable part
 /// does not fit its type. `NotSupported`: it is an ADVERTISE, SEARCHGW or GWINFO, or its MsgType is that of
