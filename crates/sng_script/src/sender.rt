@@ -4,6 +4,7 @@ ghost use Rattle.std.specs.Prelude.{◌≡◌, ◌==◌, option_map, position};
 ghost use Rattle.sng_script.specs.Lines.{address_of, parted, port_of};
 
 use crate::number::number_of;
+use memchr::memchr;
 use sng_book::Address;
 use sng_text::read_ipv4;
 
@@ -28,7 +29,7 @@ pub fn parted(text: &[u8], byte: u8) -> Option<(&[u8], &[u8])>
 fn place_of(text: &[u8], byte: u8) -> Option<usize>
     ensures { result ≡ position (λ b. b == byte) text.now }
 {
-    text.iter().position(|b| *b == byte)
+    memchr(byte, text)
 }
 
 /// The port that one decimal digit or more write.
