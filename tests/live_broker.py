@@ -264,7 +264,7 @@ def a_broker_that_sends_before_it_reads(room):
         stream = listener.connection()
         gateway.line('err', 'connected')
         with Sender(room.device(gateway)):
-            until(lambda: is_blocked(gateway), 'a write that waits')
+            until(lambda: is_blocked(gateway), 'a write that waits', 3 * SECONDS)
             sent = fill(stream)
             numbers_of(stream, lambda found: len(found) > 1000)
         wanted(sent > kept + 30000, '30 KB that the gateway read beyond %d, and not %d in all' % (kept, sent))

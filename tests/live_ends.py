@@ -121,6 +121,8 @@ class Client:
 
     def __init__(self, port, name):
         self.socket = socket.create_connection((HOST, port), SECONDS)
+        # The reader waits for the next packet however long that takes: who hears has a limit of his own
+        self.socket.settimeout(None)
         self.came = queue.Queue()
         self.reader = threading.Thread(target=self.read, daemon=True)
         self.reader.start()
@@ -172,5 +174,9 @@ class Client:
         wanted(body == ('%s %s' % (topic, payload)).encode(), '%s %s, and not %r' % (topic, payload, body))
 
     def kill(self):
-        """Ends the connection."""
+        """Ends the connection, and with it the reader."""
+        try:
+            self.socket.shutdown(socket.SHUT_RDWR)
+        except OSError:
+            pass  # the broker was first
         self.socket.close()
