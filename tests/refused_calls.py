@@ -69,13 +69,13 @@ NOTHING, WITHSTOOD = 'nothing', 'withstood'
 # Memory of the program itself
 OWN = ('Vec', 'TopicFilter::read')
 # What takes no memory: `gather`, giving rows out of a ledger and its end, steps without outs that keep
-# nothing new, an inclusion that holds, and decoding what has no text or a short id
+# nothing new, an inclusion that holds, and reading and writing what has no text or a short id
 FREE = {
     'gather', 'Ledger::give_out', 'Ledger::close', 'cover of what is included',
     *('Core::step of ' + kind for kind in (
         'Down', 'PINGRESP of the broker', 'PUBACK of the broker', 'Replace', 'SUBACK of the broker',
         'Take of nothing', 'UNSUBACK of the broker')),
-    *('sng_frames::decode of ' + kind for kind in (
+    *('sng_frames::%s of %s' % (call, kind) for call in ('decode', 'encode') for kind in (
         'CONNACK', 'CONNECT, clean', 'DISCONNECT', 'DISCONNECT with a Duration', 'PINGREQ', 'PINGREQ with an id',
         'PINGRESP', 'PUBACK', 'PUBCOMP', 'PUBREC', 'PUBREL', 'REGACK', 'SUBACK', 'UNSUBACK', 'WILLMSGREQ',
         'WILLMSGRESP', 'WILLTOPICREQ', 'WILLTOPICRESP')),

@@ -77,13 +77,18 @@ pub fn within(size: usize) -> Option<usize>
 }
 
 /// Two bytes, the high one first (1.5.2).
+pub fn number_bytes(number: usize) -> [u8; 2]
+    ensures { result ≡ number_bytes number }
+{
+    // Divisions in place of `u16::to_be_bytes`: the definition divides, and the prover computes with it.
+    [(number / 256 % 256) as u8, (number % 256) as u8]
+}
+
+/// Two bytes, the high one first (1.5.2).
 pub fn push_number(bytes: &mut Vec<u8>, number: usize) -> Result<(), AllocError>
     ensures { OnOk result (bytes.new.items ≡ bytes.old.items ++ number_bytes number) }
 {
-    // Divisions in place of `u16::to_be_bytes`: the definition divides, and the prover computes with it.
-    bytes.push((number / 256 % 256) as u8)?;
-    bytes.push((number % 256) as u8)?;
-    Ok(())
+    bytes.extend_from_slice(&number_bytes(number))
 }
 
 /// A text behind its length (1.5.3).

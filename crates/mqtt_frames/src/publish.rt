@@ -1,9 +1,10 @@
 //! PUBLISH at QoS 0 and 1 (MQTT 3.1.1, 3.3): reading, size and writing.
-ghost use Rattle.std.specs.Prelude.{◌≡◌, ◌≤◌, ◌+◌, ◌++◌, false, length, IfOk, OnOk, SomeIff};
+ghost use Rattle.std.specs.Prelude.{◌≡◌, ◌≤◌, ◌<◌, ◌+◌, ◌∷◌, ◌++◌, false, length, IfOk, OnOk, SomeIff};
 ghost use Rattle.mqtt_frames.specs.Packets.{flag, qos_bits, publish_byte, body, text_bytes, id_bytes};
 ghost use Rattle.mqtt_frames.specs.Packets.{written};
 ghost use Rattle.mqtt_frames.specs.Parts.{publish_of_parts};
 ghost use Rattle.mqtt_frames.specs.Reading.{Gives, publish_of};
+ghost use Rattle.mqtt_frames.specs.RemainingLength.{remaining_length};
 
 use crate::fields::{self, flag};
 use crate::kind::PublishFlags;
@@ -95,7 +96,7 @@ fn push_parts(
 }
 
 /// The PUBLISH of a message that is sent for the first time: at QoS 1 with a packet identifier, and else at
-/// QoS 0. Allocates once, and copies the name and the payload once.
+/// QoS 0. Allocates once at most, and copies the name and the payload once.
 pub fn write_publish(
     alloc: Global,
     name: &TopicName,
@@ -106,8 +107,37 @@ pub fn write_publish(
     ensures { IfOk result (λ o. o ≡ written (publish_of_parts name.now payload.now retain packet_id false)) }
 {
     let name = name.text();
+    let first = flags_byte(false, packet_id, retain);
     let rest = 2 + name.len() + id_size(packet_id) + payload.len();
-    let mut bytes = remaining::front(alloc, flags_byte(false, packet_id, retain), rest)?;
+    if rest < 128 {
+        return match packet_id {
+            None => write_brief(alloc, first, rest as u8, name, &[], payload),
+            Some(packet_id) => {
+                let id = fields::number_bytes(usize::from(packet_id));
+                write_brief(alloc, first, rest as u8, name, &id, payload)
+            }
+        };
+    }
+    let mut bytes = remaining::front(alloc, first, rest)?;
     push_parts(&mut bytes, name, packet_id, payload)?;
     Ok(Octets::from(bytes))
+}
+
+/// The packet with this first byte, and with so many bytes behind its fixed header that one byte says how many
+/// (2.2.3).
+#[inline(always)]
+fn write_brief(
+    alloc: Global,
+    first: u8,
+    rest: u8,
+    name: &[u8],
+    id: &[u8],
+    payload: &[u8],
+) -> Result<Octets, AllocError>
+    requires { rest < 128 }
+    ensures { IfOk result (λ o. o
+        ≡ first ∷ (remaining_length rest ++ (text_bytes name.now ++ (id.now ++ payload.now)))) }
+{
+    let [high, low] = fields::number_bytes(name.len());
+    Octets::joined(alloc, &[first, rest, high, low], name, id, payload)
 }

@@ -1,6 +1,7 @@
 -- A core may go to another thread.
 use denote.Param.Send.{IsSend, struct_send, recorded_send, view_send, sendable}
 use denote.Struct.Declared.{shape}
+use Rattle.sng_book.proofs.room.OutsRoom.TheSendSync as outs_room
 use Rattle.sng_link.proofs.link.Link.TheSendSync as link
 use Rattle.sng_policy.proofs.in_force.InForce.TheSendSync as in_force
 use Rattle.sng_sessions.proofs.Crossing.{sessions_send}
@@ -12,7 +13,7 @@ use Rattle.sng_core.specs.contracts.machine.Core.TheInside as core
 parts_fields : IsSend (parts.the_field).row
 parts_fields = struct_send (shape parts.the_type) (
   in_force.the_send,
-  (search sendable, (search sendable, (link.the_send, (sessions_send, tt)))),
+  (search sendable, (search sendable, (link.the_send, (sessions_send, (outs_room.the_send, tt))))),
 )
 
 parts_inside : IsSend parts.the_row

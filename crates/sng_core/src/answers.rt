@@ -14,7 +14,6 @@ use sng_frames::{
     write_subscribe_ack, write_unsubscribe_ack, write_will_message_request,
     write_will_message_response, write_will_topic_request, write_will_topic_response,
 };
-use sng_text::Octets;
 use std::alloc::{AllocError, Global};
 
 /// The note of a message that is denied before a name was read: of an ask under its own kind, of any other as
@@ -157,7 +156,7 @@ pub fn refused(
         SnFrame::WillTopicResponse(_) => return Ok(()),
         SnFrame::WillMessageResponse(_) => return Ok(()),
     };
-    outs.push(Out::Send(to, Octets::from(datagram)))?;
+    outs.push(Out::Send(to, datagram))?;
     Ok(())
 }
 
@@ -180,7 +179,7 @@ pub fn dismissed(alloc: Global, to: Address) -> Result<Out, AllocError>
     ensures { IfOk result (λ out. out ≡ dismissed to) }
 {
     let datagram = write_disconnect(alloc, None)?;
-    Ok(Out::Send(to, Octets::from(datagram)))
+    Ok(Out::Send(to, datagram))
 }
 
 /// The CONNACK with this code (5.4.5).
@@ -188,7 +187,7 @@ pub fn connack(alloc: Global, to: Address, code: ReturnCode) -> Result<Out, Allo
     ensures { IfOk result (λ out. out ≡ connack to code) }
 {
     let datagram = write_connect_ack(alloc, code)?;
-    Ok(Out::Send(to, Octets::from(datagram)))
+    Ok(Out::Send(to, datagram))
 }
 
 /// What answers a CONNECT that is accepted: one with Will WILLTOPICREQ (5.4.6), any other CONNACK.
@@ -197,7 +196,7 @@ pub fn welcome(alloc: Global, connect: &Connect, to: Address) -> Result<Out, All
 {
     if connect.flags.will {
         let datagram = write_will_topic_request(alloc)?;
-        Ok(Out::Send(to, Octets::from(datagram)))
+        Ok(Out::Send(to, datagram))
     } else {
         connack(alloc, to, ReturnCode::ACCEPTED)
     }
@@ -208,7 +207,7 @@ pub fn message_request(alloc: Global, to: Address) -> Result<Out, AllocError>
     ensures { IfOk result (λ out. out ≡ Out.Send to (written SnFrame.WillMessageRequest)) }
 {
     let datagram = write_will_message_request(alloc)?;
-    Ok(Out::Send(to, Octets::from(datagram)))
+    Ok(Out::Send(to, datagram))
 }
 
 /// The WILLTOPICRESP with this code (5.4.24).
@@ -216,7 +215,7 @@ pub fn topic_response(alloc: Global, to: Address, code: ReturnCode) -> Result<Ou
     ensures { IfOk result (λ out. out ≡ Out.Send to (written (SnFrame.WillTopicResponse code))) }
 {
     let datagram = write_will_topic_response(alloc, code)?;
-    Ok(Out::Send(to, Octets::from(datagram)))
+    Ok(Out::Send(to, datagram))
 }
 
 /// The WILLMSGRESP with this code (5.4.25).
@@ -224,7 +223,7 @@ pub fn message_response(alloc: Global, to: Address, code: ReturnCode) -> Result<
     ensures { IfOk result (λ out. out ≡ Out.Send to (written (SnFrame.WillMessageResponse code))) }
 {
     let datagram = write_will_message_response(alloc, code)?;
-    Ok(Out::Send(to, Octets::from(datagram)))
+    Ok(Out::Send(to, datagram))
 }
 
 /// One out alone, for both owners.

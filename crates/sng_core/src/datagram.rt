@@ -136,6 +136,7 @@ impl Parts {
             policy,
             clock,
             sessions,
+            spare,
             ..
         } = self;
         match request {
@@ -144,7 +145,9 @@ impl Parts {
             SessionRequest::Release(msg_id) => release(alloc, *clock, msg_id, sessions, place),
             SessionRequest::Subscribe(request) => self.subscribe(alloc, place, request),
             SessionRequest::Unsubscribe(request) => self.unsubscribe(alloc, place, request),
-            SessionRequest::Ping(client) => ping(alloc, policy, *clock, client, sessions, place),
+            SessionRequest::Ping(client) => {
+                ping(alloc, spare, policy, *clock, client, sessions, place)
+            }
             SessionRequest::Leave => leave(alloc, *clock, sessions, place),
             SessionRequest::Sleep(duration) => sleep(alloc, *clock, duration, sessions, place),
             SessionRequest::Register(asked) => register(

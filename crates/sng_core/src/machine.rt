@@ -52,6 +52,14 @@ impl Core {
         Ok(outs)
     }
 
+    /// Takes back what a step let out, once it is read: the next that lets out as many takes no memory for their
+    /// list. Takes no memory.
+    pub fn reuse(&mut self, alloc: Global, outs: OutsPair)
+        ensures { self.new ≡ self.old }
+    {
+        self.parts.spare.give_back(alloc, outs);
+    }
+
     /// What is counted of the state: clients by state, what stands and waits for them, what waits for the
     /// broker and is in flight to it, and how much the policy in force lists. One walk over the clients;
     /// takes no memory.

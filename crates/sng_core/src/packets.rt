@@ -71,7 +71,7 @@ impl Parts {
     {
         let owed = owed(self.is_up, publish.packet_id);
         let has_place = self.link.has_place(self.policy.limits());
-        let mut outs = Outs::new(alloc);
+        let mut outs = self.spare.take(alloc, 0)?;
         let kept = self.delivered(alloc, publish, &mut outs)?;
         note_dropped(has_place, owed, &mut outs)?;
         let outs = OutsPair::of(alloc, outs)?;

@@ -2,6 +2,7 @@
 ghost use Rattle.std.specs.Prelude.{◌≡◌, IfOk};
 ghost use Rattle.sng_history.specs.State.{opening};
 
+use sng_book::OutsRoom;
 use sng_link::Link;
 use sng_policy::InForce;
 use sng_sessions::Sessions;
@@ -16,6 +17,8 @@ pub struct Parts {
     pub is_up: bool,
     pub link: Link,
     pub sessions: Sessions,
+    /// Room for what steps let out, which no state knows.
+    pub spare: OutsRoom,
 }
 
 impl Model for Parts {
@@ -45,6 +48,7 @@ impl Parts {
             is_up: false,
             link: Link::new(alloc)?,
             sessions: Sessions::new(alloc),
+            spare: OutsRoom::new(alloc),
         })
     }
 }

@@ -4,6 +4,9 @@ ghost use Rattle.std.specs.Prelude.{◌≡◌, ◌<◌, ◌∷◌, ◌++◌, [],
 ghost use Rattle.sng_frames.specs.Writing.{written};
 ghost use Rattle.sng_history.specs.Answers.{puback};
 ghost use Rattle.sng_history.specs.State.{qos_of};
+ghost use Rattle.std.specs.Option.{option_copied};
+ghost use Rattle.sng_grants.specs.Sources.{scope_of};
+ghost use Rattle.sng_grants.specs.declared.policy.Policy.{Policy};
 ghost use Rattle.sng_history.specs.Verdicts.{name_in};
 ghost use Rattle.sng_core.specs.Forms.{client_at, publish_judged, sent_to};
 ghost use Rattle.sng_core.specs.Forms.{publish_named, publish_reply, publish_noted, publication_by};
@@ -11,12 +14,13 @@ ghost use Rattle.sng_core.specs.Forms.{carried_outs, carried};
 
 use crate::answers::code_of;
 use crate::parts::Parts;
-use crate::verdict::{Judged, and_then, client_name, copy_name, may_ask, unread};
+use crate::verdict::{Judged, and_then, client_name, copy_name, may_ask_by, unread};
 use sng_book::{Address, Decision, Denial, Out, Outcome, OutsPair, Who};
 use sng_frames::{
     FrameQos, Publish, ReturnCode, SnFrame, TopicAck, TopicIdType, write_publish_ack,
 };
-use sng_history::exit;
+use sng_grants::Scope;
+use sng_history::exit_by;
 use sng_outbox::{Origin, Publication};
 use sng_policy::InForce;
 use sng_sessions::{Sessions, out_of_memory};
@@ -87,11 +91,12 @@ pub fn judged(
     ensures { IfOk result (λ j. j ≡ publish_judged policy.now room (client_at sessions.now place)
         publish.now.flags.id_type publish.now.topic_id) }
 {
-    match may_ask(alloc, policy, sessions, place)? {
+    let scope = policy.scope(sessions.id(place));
+    match may_ask_by(alloc, scope, sessions, place)? {
         Outcome::Allowed => {
             let id_type = publish.flags.id_type;
             let named = name_read(alloc, policy, sessions, place, id_type, publish.topic_id)?;
-            judged_name(alloc, policy, room, sessions, place, named)
+            judged_name(alloc, scope, room, sessions, place, named)
         }
         Outcome::Denied(rule) => Ok(unread(rule)),
     }
@@ -113,22 +118,23 @@ fn name_read(
     client_name(alloc, policy, sessions.ids(place), id_type, id)
 }
 
-/// How the PUBLISH of a client that may ask comes out, given the name that was read.
+/// How the PUBLISH of a client that may ask comes out, given its scope and the name that was read.
 fn judged_name(
     alloc: Global,
-    policy: &InForce,
+    scope: Option<&Scope>,
     room: Outcome,
     sessions: &Sessions,
     place: usize,
     named: Result<TopicName, Denial>,
 ) -> Result<Judged, AllocError>
     requires { place < length sessions.now }
-    ensures { IfOk result (λ j. j ≡ publish_named policy.now room (client_at sessions.now place) named) }
+    ensures { (policy : Policy) → option_copied scope.entry
+        ≡ scope_of policy.clients (client_at sessions.now place).id
+        → IfOk result (λ j. j ≡ publish_named policy room (client_at sessions.now place) named) }
 {
     match named {
         Ok(name) => {
-            let origin = Origin::Client(sessions.id(place).copy()?);
-            let outcome = and_then(exit(alloc, policy, &origin, &name)?, room);
+            let outcome = and_then(exit_by(alloc, scope, sessions.id(place), &name)?, room);
             Ok(Judged {
                 name: Some(name),
                 outcome,
@@ -205,8 +211,7 @@ pub fn puback_with(alloc: Global, publish: &Publish, code: ReturnCode) -> Result
         msg_id: publish.msg_id,
         code,
     };
-    let datagram = write_publish_ack(alloc, ack)?;
-    Ok(Octets::from(datagram))
+    write_publish_ack(alloc, ack)
 }
 
 /// The publish that was asked for, where it was allowed. An `Err` is a failed allocation.

@@ -136,8 +136,7 @@ fn pubrec(alloc: Global, to: Address, msg_id: u16) -> Result<Out, AllocError>
 fn received(alloc: Global, msg_id: u16) -> Result<Octets, AllocError>
     ensures { IfOk result (λ datagram. datagram ≡ written (SnFrame.PublishReceived msg_id)) }
 {
-    let datagram = write_publish_received(alloc, msg_id)?;
-    Ok(Octets::from(datagram))
+    write_publish_received(alloc, msg_id)
 }
 
 /// The PUBCOMP with this MsgId (5.4.14).
@@ -145,7 +144,7 @@ fn pubcomp(alloc: Global, to: Address, msg_id: u16) -> Result<Out, AllocError>
     ensures { IfOk result (λ out. out ≡ pubcomp to msg_id) }
 {
     let datagram = write_publish_complete(alloc, msg_id)?;
-    Ok(Out::Send(to, Octets::from(datagram)))
+    Ok(Out::Send(to, datagram))
 }
 
 /// A PUBREL of the client at this place: where it has its turn its MsgId is open no more, and PUBCOMP answers

@@ -178,7 +178,7 @@ fn regack(
         code,
     };
     let datagram = write_register_ack(alloc, ack)?;
-    Ok(Out::Send(to, Octets::from(datagram)))
+    Ok(Out::Send(to, datagram))
 }
 
 /// The client is heard, and is told the id of the name where that was allowed. An `Err` is a failed

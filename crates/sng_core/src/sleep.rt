@@ -10,7 +10,7 @@ ghost use Rattle.sng_core.specs.Sleeping.{own_ping_next, other_ping_outs, ping_o
 
 use crate::answers::{dismissed, only};
 use crate::messages::denied_frame;
-use sng_book::{Decision, Denial, FormDenial, Out, Outcome, Outs, OutsPair, Who};
+use sng_book::{Decision, Denial, FormDenial, Out, Outcome, Outs, OutsPair, OutsRoom, Who};
 use sng_policy::InForce;
 use sng_queue::Queue;
 use sng_sessions::{Change, Sessions};
@@ -52,6 +52,7 @@ fn slept_outs(alloc: Global, sessions: &Sessions, place: usize) -> Result<OutsPa
 /// A PINGREQ of the client at this place.
 pub fn ping(
     alloc: Global,
+    spare: &mut OutsRoom,
     policy: &InForce,
     clock: u64,
     client: Option<ClientId>,
@@ -66,13 +67,14 @@ pub fn ping(
 {
     match client {
         None => still_pinged(alloc, clock, false, sessions, place),
-        Some(id) => named_ping(alloc, policy, clock, &id, sessions, place),
+        Some(id) => named_ping(alloc, spare, policy, clock, &id, sessions, place),
     }
 }
 
 /// A PINGREQ that names a client: one that names another client is dismissed.
 fn named_ping(
     alloc: Global,
+    spare: &mut OutsRoom,
     policy: &InForce,
     clock: u64,
     id: &ClientId,
@@ -87,7 +89,7 @@ fn named_ping(
     ensures err { OnErr result (sessions.new ≡ sessions.old) }
 {
     if id == sessions.id(place) {
-        let outs = own_ping(alloc, policy, clock, sessions, place)?;
+        let outs = own_ping(alloc, spare, policy, clock, sessions, place)?;
         return Ok(outs);
     }
     let outs = dismiss(alloc, clock, sessions, place)?;
@@ -97,6 +99,7 @@ fn named_ping(
 /// A PINGREQ that names its client: it wakes it where it sleeps.
 fn own_ping(
     alloc: Global,
+    spare: &mut OutsRoom,
     policy: &InForce,
     clock: u64,
     sessions: &mut Sessions,
@@ -108,7 +111,7 @@ fn own_ping(
     ensures err { OnErr result (sessions.new ≡ sessions.old) }
 {
     if sessions.phase(place).is_asleep() {
-        let outs = wake(alloc, policy, clock, sessions, place)?;
+        let outs = wake(alloc, spare, policy, clock, sessions, place)?;
         return Ok(outs);
     }
     let outs = still_pinged(alloc, clock, true, sessions, place)?;
@@ -179,6 +182,7 @@ fn dismiss(
 /// it it sleeps again.
 fn wake(
     alloc: Global,
+    spare: &mut OutsRoom,
     policy: &InForce,
     clock: u64,
     sessions: &mut Sessions,
@@ -189,7 +193,7 @@ fn wake(
     ensures next { OnOk result (sessions.new ≡ moved_at place (woken_next policy.now clock) sessions.old) }
     ensures err { OnErr result (sessions.new ≡ sessions.old) }
 {
-    let mut outs = room_for(alloc, sessions.queue(place))?;
+    let mut outs = spare.take(alloc, most_outs(sessions.queue(place)))?;
     let phase = ClientState::Awake;
     let settled = Settled::Nothing;
     let handed = serve_plan(alloc, policy, phase, sessions, place, settled, &mut outs)?;
@@ -200,11 +204,9 @@ fn wake(
     Ok(outs)
 }
 
-/// Room for what is let out where all that waits leaves at once: two outs for each message, and PINGRESP. Behind
-/// a message at QoS 1 nothing leaves.
-fn room_for(alloc: Global, queue: &Queue) -> Result<Outs, AllocError>
-    ensures { IfOk result (λ outs. outs ≡ []) }
-{
+/// How many are let out where all that waits leaves at once: two for each message, and PINGRESP. Behind a message
+/// at QoS 1 nothing leaves.
+fn most_outs(queue: &Queue) -> usize {
     let leaving = match queue.at(0) {
         None => 0,
         Some(front) => match front.qos() {
@@ -212,5 +214,5 @@ fn room_for(alloc: Global, queue: &Queue) -> Result<Outs, AllocError>
             Qos::AtLeastOnce => 1,
         },
     };
-    Outs::with_capacity(alloc, 2 * leaving + 1)
+    2 * leaving + 1
 }

@@ -25,7 +25,7 @@ use sng_frames::{
 use sng_history::coverage;
 use sng_link::Link;
 use sng_sessions::{ClientIds, NewName, Sessions};
-use sng_text::{Octets, Qos, TopicFilter, TopicName};
+use sng_text::{Qos, TopicFilter, TopicName};
 use sng_turns::known::id_in;
 use std::alloc::{AllocError, Global};
 
@@ -310,7 +310,7 @@ fn suback(
         code: ReturnCode::ACCEPTED,
     };
     let datagram = write_subscribe_ack(alloc, ack)?;
-    Ok(Out::Send(sessions.address(place), Octets::from(datagram)))
+    Ok(Out::Send(sessions.address(place), datagram))
 }
 
 /// The flags of a SUBACK: the QoS that is granted, alone.
@@ -364,6 +364,6 @@ fn refused_suback(
         code: code_of(rule),
     };
     let datagram = write_subscribe_ack(alloc, ack)?;
-    outs.push(Out::Send(to, Octets::from(datagram)))?;
+    outs.push(Out::Send(to, datagram))?;
     Ok(())
 }

@@ -14,7 +14,7 @@ use crate::parts::Parts;
 use sng_book::{Address, Decision, Denial, FormDenial, Out, Outcome, Outs, OutsPair, Who};
 use sng_frames::{TopicRequest, write_unsubscribe_ack};
 use sng_sessions::Sessions;
-use sng_text::{Octets, TopicFilter};
+use sng_text::TopicFilter;
 use std::alloc::{AllocError, Global};
 
 impl Parts {
@@ -164,5 +164,5 @@ fn unsuback(alloc: Global, to: Address, request: &TopicRequest) -> Result<Out, A
     ensures { IfOk result (λ out. out ≡ unsuback to request.now) }
 {
     let datagram = write_unsubscribe_ack(alloc, request.msg_id)?;
-    Ok(Out::Send(to, Octets::from(datagram)))
+    Ok(Out::Send(to, datagram))
 }

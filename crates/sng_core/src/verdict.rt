@@ -1,6 +1,9 @@
 //! How an ask is judged as it comes: the first rule in the documented order that forbids it.
 ghost use Rattle.std.specs.Prelude.{◌≡◌, ◌<◌, length, nat_lt, Some, None, IfOk, Ok, Err, if◌then◌else◌};
+ghost use Rattle.std.specs.Option.{option_copied};
 ghost use Rattle.sng_text.specs.Texts.{is_name};
+ghost use Rattle.sng_grants.specs.Sources.{scope_of};
+ghost use Rattle.sng_grants.specs.declared.policy.Policy.{Policy};
 ghost use Rattle.sng_policy.specs.Grants.{topic};
 ghost use Rattle.sng_ids.specs.Ids.{name_of};
 ghost use Rattle.sng_history.specs.State.{is_known};
@@ -11,6 +14,7 @@ ghost use Rattle.sng_core.specs.Forms.{client_at, unread};
 use crate::parts::Parts;
 use sng_book::{Denial, FormDenial, GrantDenial, IdKind, Outcome, Place, RoomDenial};
 use sng_frames::{Connect, TopicIdType};
+use sng_grants::Scope;
 use sng_history::exit;
 use sng_outbox::Origin;
 use sng_policy::InForce;
@@ -88,14 +92,27 @@ pub fn may_ask(
     requires { place < length sessions.now }
     ensures { IfOk result (λ outcome. outcome ≡ may_ask policy.now (client_at sessions.now place)) }
 {
+    may_ask_by(alloc, policy.scope(sessions.id(place)), sessions, place)
+}
+
+/// The same by the scope that the policy in force gives the client.
+pub fn may_ask_by(
+    alloc: Global,
+    scope: Option<&Scope>,
+    sessions: &Sessions,
+    place: usize,
+) -> Result<Outcome, AllocError>
+    requires { place < length sessions.now }
+    ensures { (policy : Policy) → option_copied scope.entry
+        ≡ scope_of policy.clients (client_at sessions.now place).id
+        → IfOk result (λ outcome. outcome ≡ may_ask policy (client_at sessions.now place)) }
+{
     if !sessions.phase(place).is_active() {
         return Ok(Outcome::Denied(Denial::Form(FormDenial::OutOfTurn)));
     }
-    let id = sessions.id(place);
-    if policy.lists(id) {
-        Ok(Outcome::Allowed)
-    } else {
-        unlisted(alloc, id)
+    match scope {
+        Some(_) => Ok(Outcome::Allowed),
+        None => unlisted(alloc, sessions.id(place)),
     }
 }
 

@@ -18,7 +18,7 @@ ghost use Rattle.sng_history.specs.State.{State, opening};
 ghost use Rattle.sng_history.specs.Steps.{outs_of, next_of};
 
 pub use limits::{MAX_OPEN_SUBSCRIBES, PING_MS, RETRY_MS};
-pub use verdicts::{coverage, exit, receive, receive_by};
+pub use verdicts::{coverage, exit, exit_by, receive, receive_by};
 
 /// A step from a good state keeps a book lawful, and leads to the state after it, which is good again; the
 /// opening state is good, and the empty book leads to it.

@@ -25,15 +25,28 @@ pub fn exit(
     ensures { IfOk result (λ outcome. outcome ≡ exit policy.now origin.now name.now) }
 {
     match origin {
-        Origin::Client(client) => {
-            let grant = policy.may_publish(client, name);
-            name_outcome(alloc, Permission::Publish, Some(client), name, grant)
-        }
+        Origin::Client(client) => { exit_by(alloc, policy.scope(client), client, name) }
         Origin::Source(source) => {
             let grant = policy.source_may_publish(*source, name);
             name_outcome(alloc, Permission::Publish, None, name, grant)
         }
     }
+}
+
+/// The judgement of a publish of the client under the name, by the scope that the policy in force gives it.
+/// Where more is asked of that scope it is found once.
+#[inline(always)]
+pub fn exit_by(
+    alloc: Global,
+    scope: Option<&Scope>,
+    client: &ClientId,
+    name: &TopicName,
+) -> Result<Outcome, AllocError>
+    ensures { IfOk result (λ outcome. outcome ≡ name_outcome Permission.Publish (Some client.now) name.now
+        (grant_by Permission.Publish (option_copied scope.entry) name.now)) }
+{
+    let grant = grant_by(Permission::Publish, scope, name);
+    name_outcome(alloc, Permission::Publish, Some(client), name, grant)
 }
 
 /// The judgement of a message for the client under the name.

@@ -2,16 +2,13 @@
 ghost use Rattle.hex.specs.Hex.{is_hex_digit};
 ghost use Rattle.std.specs.List.{AllPass};
 ghost use Rattle.std.specs.Prelude.{◌≡◌, ◌≢◌, ◌↔◌, ◌≤◌, ◌*◌, [], length, Some, IfOk, IfErr, IsTrue};
-ghost use Rattle.sng_script.specs.declared.datagram.TheConstants.{FEW};
 ghost use Rattle.sng_script.specs.Lines.{datagram_of, piece_of};
 ghost use Rattle.sng_script.specs.Obstacles.{fault_of};
+ghost use Rattle.sng_text.specs.declared.kept.TheConstants.{MOST_SHORT};
 
 use crate::script::LineFault;
-use sng_text::Octets;
+use sng_text::{MOST_SHORT, Octets};
 use std::alloc::Global;
-
-/// How many bytes are few: `Octets` of so many lie in line.
-const FEW: usize = 30;
 
 /// The bytes of a datagram: those of the digits. A `-` stands for no bytes.
 pub fn read_datagram(alloc: Global, digits: &[u8]) -> Result<Octets, LineFault>
@@ -33,7 +30,7 @@ pub fn read_piece(alloc: Global, digits: &[u8]) -> Result<Octets, LineFault>
     if digits.is_empty() {
         return Err(LineFault::Unreadable);
     }
-    if digits.len() <= 2 * FEW {
+    if digits.len() <= 2 * MOST_SHORT {
         return read_few(alloc, digits);
     }
     match hex::decode(alloc, digits) {
@@ -43,14 +40,14 @@ pub fn read_piece(alloc: Global, digits: &[u8]) -> Result<Octets, LineFault>
     }
 }
 
-/// The same for few bytes, which are put together in line, without memory of their own.
+/// The same for as few bytes as `Octets` keep in line, which are put together without memory of their own.
 fn read_few(alloc: Global, digits: &[u8]) -> Result<Octets, LineFault>
-    requires few { length digits.now ≤ 2 * FEW }
+    requires few { length digits.now ≤ 2 * MOST_SHORT }
     requires some { digits.now ≢ [] }
     ensures ok { IfOk result (λ octets. piece_of digits.now ≡ Some octets) }
     ensures err { IfErr result (λ fault. fault ≡ fault_of (piece_of digits.now)) }
 {
-    let mut room = [0; FEW];
+    let mut room = [0; MOST_SHORT];
     let bytes = &mut room[..digits.len() / 2];
     match hex::decode_to_slice(digits, bytes) {
         Ok(()) => Octets::of(alloc, bytes).map_err(|_| LineFault::Memory),

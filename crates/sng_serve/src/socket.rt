@@ -41,7 +41,7 @@ pub struct Socket<'a, R: Net + Clock + Wait> {
     port: u16,
     buffer: Vec<u8>,
     /// A DISCONNECT, as it answers who has no session.
-    disconnect: Vec<u8>,
+    disconnect: Octets,
     paths: Paths,
     /// Until when some address may rest, in ms; 0 where none does.
     rest_end: u64,
@@ -99,8 +99,8 @@ impl<'a, R: Net + Clock + Wait> Socket<'a, R> {
         let Some(bytes) = self.buffer.as_slice().get(..count) else {
             return Got::Nothing;
         };
-        match Vec::from_slice(self.alloc, bytes) {
-            Ok(datagram) => Got::Came((address_of(from), Octets::from(datagram))),
+        match Octets::of(self.alloc, bytes) {
+            Ok(datagram) => Got::Came((address_of(from), datagram)),
             Err(AllocError) => {
                 self.lost = self.lost.saturating_add(1);
                 self.hub.refusals.add(1);

@@ -27,6 +27,7 @@ pub use comparing::{Compare, all_same};
 pub use fault::{RefusedText, TextFault};
 pub use filter::TopicFilter;
 pub use ipv4::read_ipv4;
+pub use kept::MOST_SHORT;
 pub use levels::{Levels, split_level};
 pub use limits::{MAX_CLIENT_ID, MAX_FILTER, MAX_NAME};
 pub use matching::matches;

@@ -13,7 +13,6 @@ use sng_frames::write_ping_response;
 use sng_policy::InForce;
 use sng_sessions::{Handed, Sessions};
 use sng_states::ClientState;
-use sng_text::Octets;
 use std::alloc::{AllocError, Global};
 
 /// What was settled with a client just before what waits is handed over.
@@ -103,5 +102,5 @@ pub fn pong(alloc: Global, to: Address) -> Result<Out, AllocError>
     ensures { IfOk result (λ out. out ≡ pong to) }
 {
     let datagram = write_ping_response(alloc)?;
-    Ok(Out::Send(to, Octets::from(datagram)))
+    Ok(Out::Send(to, datagram))
 }

@@ -14,7 +14,7 @@ use sng_book::{Address, Decision, Denial, GrantDenial, Out, Outcome, Outs, Place
 use sng_frames::{Flags, FrameQos, TopicIdType, write_publish, write_register};
 use sng_queue::{Sending, TopicIdKind, Waiting};
 use sng_sessions::{ClientIds, NewName, Opens, number_after};
-use sng_text::{ClientId, Octets, Qos, TopicName};
+use sng_text::{ClientId, Qos, TopicName};
 use std::alloc::{AllocError, Global};
 
 /// The client to whom messages go.
@@ -116,7 +116,7 @@ fn introduce(
     outs.push(Out::Note(Decision::Announce(to.id.copy()?, mail.name.copy()?)))?;
     let id = to.ids.id_for(mail.name);
     let datagram = write_register(alloc, id, number_after(to.number), mail.name.text())?;
-    outs.push(Out::Send(to.address, Octets::from(datagram)))?;
+    outs.push(Out::Send(to.address, datagram))?;
     let name = NewName::new(alloc, mail.name.copy()?)?;
     Ok(Opens::Announcing(name))
 }
@@ -160,7 +160,7 @@ fn publish(
     let flags = publish_flags(mail.qos, mail.retain, known.kind);
     let msg_id = msg_id_of(mail.qos, to.number);
     let datagram = write_publish(alloc, flags, known.id, msg_id, mail.payload)?;
-    Ok(Out::Send(to.address, Octets::from(datagram)))
+    Ok(Out::Send(to.address, datagram))
 }
 
 /// At QoS 0 it has no MsgId.
@@ -216,7 +216,7 @@ pub fn repeat_register(
     ensures { IfOk result (λ out. out ≡ register_again to sent.now name.now) }
 {
     let datagram = write_register(alloc, sent.topic_id, sent.msg_id, name.text())?;
-    Ok(Out::Send(to, Octets::from(datagram)))
+    Ok(Out::Send(to, datagram))
 }
 
 /// The PUBLISH of a hand-over, sent again: it says so by DUP (5.4.12).
@@ -233,5 +233,5 @@ pub fn repeat_publish(
     flags.dup = true;
     let (id, msg_id) = (sent.topic_id, sent.msg_id);
     let datagram = write_publish(alloc, flags, id, msg_id, message.payload())?;
-    Ok(Out::Send(to, Octets::from(datagram)))
+    Ok(Out::Send(to, datagram))
 }

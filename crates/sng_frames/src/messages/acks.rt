@@ -10,6 +10,7 @@ ghost use Rattle.sng_frames.specs.declared.frame.SnFrame.TheVariants as frames;
 
 use crate::wire::framing;
 use crate::{Flags, FrameFault, MessageType, ReturnCode};
+use sng_text::Octets;
 use std::alloc::{AllocError, Global};
 
 /// A REGACK or a PUBACK.
@@ -72,22 +73,22 @@ pub(crate) fn decode_subscribe_ack(part: &[u8]) -> Result<SubscribeAck, FrameFau
 }
 
 /// The datagram of a CONNACK. Allocates once.
-pub fn write_connect_ack(alloc: Global, code: ReturnCode) -> Result<Vec<u8>, AllocError>
-    ensures { IfOk result (λ v. v.items ≡ written (frames.ConnectAck code)) }
+pub fn write_connect_ack(alloc: Global, code: ReturnCode) -> Result<Octets, AllocError>
+    ensures { IfOk result (λ o. o ≡ written (frames.ConnectAck code)) }
 {
     framing::frame(alloc, MessageType::ConnectAck, &[code.0], &[])
 }
 
 /// The datagram of a REGACK. Allocates once.
-pub fn write_register_ack(alloc: Global, ack: TopicAck) -> Result<Vec<u8>, AllocError>
-    ensures { IfOk result (λ v. v.items ≡ written (frames.RegisterAck ack)) }
+pub fn write_register_ack(alloc: Global, ack: TopicAck) -> Result<Octets, AllocError>
+    ensures { IfOk result (λ o. o ≡ written (frames.RegisterAck ack)) }
 {
     write_topic_ack(alloc, MessageType::RegisterAck, ack)
 }
 
 /// The datagram of a PUBACK. Allocates once.
-pub fn write_publish_ack(alloc: Global, ack: TopicAck) -> Result<Vec<u8>, AllocError>
-    ensures { IfOk result (λ v. v.items ≡ written (frames.PublishAck ack)) }
+pub fn write_publish_ack(alloc: Global, ack: TopicAck) -> Result<Octets, AllocError>
+    ensures { IfOk result (λ o. o ≡ written (frames.PublishAck ack)) }
 {
     write_topic_ack(alloc, MessageType::PublishAck, ack)
 }
@@ -97,8 +98,8 @@ pub(crate) fn write_topic_ack(
     alloc: Global,
     kind: MessageType,
     ack: TopicAck,
-) -> Result<Vec<u8>, AllocError>
-    ensures written { IfOk result (λ v. v.items ≡ framed (octet_of kind) (topic_ack_part ack)) }
+) -> Result<Octets, AllocError>
+    ensures written { IfOk result (λ o. o ≡ framed (octet_of kind) (topic_ack_part ack)) }
     ensures in_range { IsInRange (frames.RegisterAck ack) }
 {
     let [topic_high, topic_low] = framing::octets(ack.topic_id);
@@ -108,8 +109,8 @@ pub(crate) fn write_topic_ack(
 }
 
 /// The datagram of a SUBACK. Allocates once.
-pub fn write_subscribe_ack(alloc: Global, ack: SubscribeAck) -> Result<Vec<u8>, AllocError>
-    ensures written { IfOk result (λ v. v.items ≡ written (frames.SubscribeAck ack)) }
+pub fn write_subscribe_ack(alloc: Global, ack: SubscribeAck) -> Result<Octets, AllocError>
+    ensures written { IfOk result (λ o. o ≡ written (frames.SubscribeAck ack)) }
     ensures in_range { IsInRange (frames.SubscribeAck ack) }
 {
     let [topic_high, topic_low] = framing::octets(ack.topic_id);
@@ -126,8 +127,8 @@ pub fn write_subscribe_ack(alloc: Global, ack: SubscribeAck) -> Result<Vec<u8>, 
 }
 
 /// The datagram of a PUBCOMP. Allocates once.
-pub fn write_publish_complete(alloc: Global, msg_id: u16) -> Result<Vec<u8>, AllocError>
-    ensures { IfOk result (λ v. v.items ≡ written (frames.PublishComplete msg_id)) }
+pub fn write_publish_complete(alloc: Global, msg_id: u16) -> Result<Octets, AllocError>
+    ensures { IfOk result (λ o. o ≡ written (frames.PublishComplete msg_id)) }
 {
     framing::frame(
         alloc,
@@ -138,8 +139,8 @@ pub fn write_publish_complete(alloc: Global, msg_id: u16) -> Result<Vec<u8>, All
 }
 
 /// The datagram of a PUBREC. Allocates once.
-pub fn write_publish_received(alloc: Global, msg_id: u16) -> Result<Vec<u8>, AllocError>
-    ensures { IfOk result (λ v. v.items ≡ written (frames.PublishReceived msg_id)) }
+pub fn write_publish_received(alloc: Global, msg_id: u16) -> Result<Octets, AllocError>
+    ensures { IfOk result (λ o. o ≡ written (frames.PublishReceived msg_id)) }
 {
     framing::frame(
         alloc,
@@ -150,8 +151,8 @@ pub fn write_publish_received(alloc: Global, msg_id: u16) -> Result<Vec<u8>, All
 }
 
 /// The datagram of a PUBREL. Allocates once.
-pub fn write_publish_release(alloc: Global, msg_id: u16) -> Result<Vec<u8>, AllocError>
-    ensures { IfOk result (λ v. v.items ≡ written (frames.PublishRelease msg_id)) }
+pub fn write_publish_release(alloc: Global, msg_id: u16) -> Result<Octets, AllocError>
+    ensures { IfOk result (λ o. o ≡ written (frames.PublishRelease msg_id)) }
 {
     framing::frame(
         alloc,
@@ -162,8 +163,8 @@ pub fn write_publish_release(alloc: Global, msg_id: u16) -> Result<Vec<u8>, Allo
 }
 
 /// The datagram of an UNSUBACK. Allocates once.
-pub fn write_unsubscribe_ack(alloc: Global, msg_id: u16) -> Result<Vec<u8>, AllocError>
-    ensures { IfOk result (λ v. v.items ≡ written (frames.UnsubscribeAck msg_id)) }
+pub fn write_unsubscribe_ack(alloc: Global, msg_id: u16) -> Result<Octets, AllocError>
+    ensures { IfOk result (λ o. o ≡ written (frames.UnsubscribeAck msg_id)) }
 {
     framing::frame(
         alloc,

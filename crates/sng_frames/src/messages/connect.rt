@@ -10,7 +10,7 @@ ghost use Rattle.sng_frames.specs.declared.limits.TheConstants.{MAX_DATAGRAM};
 use crate::messages::part;
 use crate::wire::framing;
 use crate::{Flags, FrameFault, MessageType};
-use sng_text::ClientId;
+use sng_text::{ClientId, Octets};
 use std::alloc::{AllocError, Global};
 
 /// A CONNECT.
@@ -49,9 +49,9 @@ pub(crate) fn size(connect: &Connect) -> usize
 }
 
 /// The datagram of a CONNECT.
-pub(crate) fn write(alloc: Global, connect: &Connect) -> Result<Vec<u8>, AllocError>
+pub(crate) fn write(alloc: Global, connect: &Connect) -> Result<Octets, AllocError>
     requires { length (connect_part connect.now) + 4 ≤ MAX_DATAGRAM }
-    ensures written { IfOk result (λ v. v.items ≡ written (frames.Connect connect.now)) }
+    ensures written { IfOk result (λ o. o ≡ written (frames.Connect connect.now)) }
     ensures in_range { IsInRange (frames.Connect connect.now) }
 {
     let [high, low] = framing::octets(connect.duration);

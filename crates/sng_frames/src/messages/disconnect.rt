@@ -8,6 +8,7 @@ ghost use Rattle.sng_frames.specs.declared.frame.SnFrame.TheVariants as frames;
 
 use crate::wire::framing;
 use crate::{FrameFault, MessageType};
+use sng_text::Octets;
 use std::alloc::{AllocError, Global};
 
 /// Nothing, or a Duration.
@@ -32,8 +33,8 @@ pub(crate) fn size(duration: &Option<u16>) -> usize
 }
 
 /// The datagram of a DISCONNECT, with its Duration in seconds where it has one. Allocates once.
-pub fn write_disconnect(alloc: Global, duration: Option<u16>) -> Result<Vec<u8>, AllocError>
-    ensures written { IfOk result (λ v. v.items ≡ written (frames.Disconnect duration)) }
+pub fn write_disconnect(alloc: Global, duration: Option<u16>) -> Result<Octets, AllocError>
+    ensures written { IfOk result (λ o. o ≡ written (frames.Disconnect duration)) }
     ensures in_range { IsInRange (frames.Disconnect duration) }
 {
     match duration {

@@ -62,9 +62,9 @@ pub fn write_publish(
     topic_id: u16,
     msg_id: u16,
     payload: &[u8],
-) -> Result<Vec<u8>, AllocError>
+) -> Result<Octets, AllocError>
     requires { length payload.now ≤ MAX_PAYLOAD }
-    ensures { IfOk result (λ v. v.items ≡ written (frames.Publish
+    ensures { IfOk result (λ o. o ≡ written (frames.Publish
         (record { flags = flags; topic_id = topic_id; msg_id = msg_id; payload = payload.now }))) }
 {
     let [topic_high, topic_low] = framing::octets(topic_id);

@@ -50,9 +50,9 @@ pub fn write_register(
     topic_id: u16,
     msg_id: u16,
     name: &[u8],
-) -> Result<Vec<u8>, AllocError>
+) -> Result<Octets, AllocError>
     requires { length name.now ≤ MAX_REGISTERED_NAME }
-    ensures { IfOk result (λ v. v.items ≡ written (frames.Register
+    ensures { IfOk result (λ o. o ≡ written (frames.Register
         (record { topic_id = topic_id; msg_id = msg_id; name = name.now }))) }
 {
     let [topic_high, topic_low] = framing::octets(topic_id);

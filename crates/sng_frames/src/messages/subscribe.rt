@@ -66,9 +66,9 @@ pub(crate) fn write(
     alloc: Global,
     kind: MessageType,
     request: &TopicRequest,
-) -> Result<Vec<u8>, AllocError>
+) -> Result<Octets, AllocError>
     requires { length (topic_request_part request.now) + 4 ≤ MAX_DATAGRAM }
-    ensures written { IfOk result (λ v. v.items ≡ framed (octet_of kind) (topic_request_part request.now)) }
+    ensures written { IfOk result (λ o. o ≡ framed (octet_of kind) (topic_request_part request.now)) }
     ensures in_range { request.now.msg_id < 2 ^ 16 }
 {
     let [high, low] = framing::octets(request.msg_id);

@@ -52,9 +52,9 @@ pub(crate) fn write_topic(
     alloc: Global,
     kind: MessageType,
     will: &Option<WillTopic>,
-) -> Result<Vec<u8>, AllocError>
+) -> Result<Octets, AllocError>
     requires { length (will_topic_part will.now) + 4 ≤ MAX_DATAGRAM }
-    ensures { IfOk result (λ v. v.items ≡ framed (octet_of kind) (will_topic_part will.now)) }
+    ensures { IfOk result (λ o. o ≡ framed (octet_of kind) (will_topic_part will.now)) }
 {
     match will {
         None => framing::frame(alloc, kind, &[], &[]),
@@ -63,29 +63,29 @@ pub(crate) fn write_topic(
 }
 
 /// The datagram of a WILLTOPICREQ. Allocates once.
-pub fn write_will_topic_request(alloc: Global) -> Result<Vec<u8>, AllocError>
-    ensures { IfOk result (λ v. v.items ≡ written frames.WillTopicRequest) }
+pub fn write_will_topic_request(alloc: Global) -> Result<Octets, AllocError>
+    ensures { IfOk result (λ o. o ≡ written frames.WillTopicRequest) }
 {
     framing::frame(alloc, MessageType::WillTopicRequest, &[], &[])
 }
 
 /// The datagram of a WILLMSGREQ. Allocates once.
-pub fn write_will_message_request(alloc: Global) -> Result<Vec<u8>, AllocError>
-    ensures { IfOk result (λ v. v.items ≡ written frames.WillMessageRequest) }
+pub fn write_will_message_request(alloc: Global) -> Result<Octets, AllocError>
+    ensures { IfOk result (λ o. o ≡ written frames.WillMessageRequest) }
 {
     framing::frame(alloc, MessageType::WillMessageRequest, &[], &[])
 }
 
 /// The datagram of a WILLTOPICRESP. Allocates once.
-pub fn write_will_topic_response(alloc: Global, code: ReturnCode) -> Result<Vec<u8>, AllocError>
-    ensures { IfOk result (λ v. v.items ≡ written (frames.WillTopicResponse code)) }
+pub fn write_will_topic_response(alloc: Global, code: ReturnCode) -> Result<Octets, AllocError>
+    ensures { IfOk result (λ o. o ≡ written (frames.WillTopicResponse code)) }
 {
     framing::frame(alloc, MessageType::WillTopicResponse, &[code.0], &[])
 }
 
 /// The datagram of a WILLMSGRESP. Allocates once.
-pub fn write_will_message_response(alloc: Global, code: ReturnCode) -> Result<Vec<u8>, AllocError>
-    ensures { IfOk result (λ v. v.items ≡ written (frames.WillMessageResponse code)) }
+pub fn write_will_message_response(alloc: Global, code: ReturnCode) -> Result<Octets, AllocError>
+    ensures { IfOk result (λ o. o ≡ written (frames.WillMessageResponse code)) }
 {
     framing::frame(alloc, MessageType::WillMessageResponse, &[code.0], &[])
 }

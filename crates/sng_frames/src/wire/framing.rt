@@ -7,41 +7,30 @@ ghost use Rattle.sng_frames.specs.Writing.{framed};
 ghost use Rattle.sng_frames.specs.declared.limits.TheConstants.{MAX_DATAGRAM};
 
 use crate::{MAX_SHORT_LENGTH, MessageType};
+use sng_text::Octets;
 use std::alloc::{AllocError, Global};
 
 /// The octets of a Length that has three of them, and of a MsgType.
 pub(crate) const LONGEST_FRONT: usize = 4;
 
 /// The datagram of that type whose variable part is the two slices, one after the other, with the shortest
-/// Length. Allocates once.
+/// Length. Allocates once at most, and not at all where the datagram is short.
+#[inline(always)]
 pub(crate) fn frame(
     alloc: Global,
     kind: MessageType,
     head: &[u8],
     tail: &[u8],
-) -> Result<Vec<u8>, AllocError>
+) -> Result<Octets, AllocError>
     requires { 4 + length head.now + length tail.now ≤ MAX_DATAGRAM }
-    ensures { IfOk result (λ v. v.items ≡ framed (octet_of kind) (head.now ++ tail.now)) }
+    ensures { IfOk result (λ o. o ≡ framed (octet_of kind) (head.now ++ tail.now)) }
 {
     let size = head.len() + tail.len();
     if size + 2 <= MAX_SHORT_LENGTH {
-        return join(alloc, &[(size + 2) as u8, kind.octet()], head, tail);
+        return Octets::joined(alloc, &[(size + 2) as u8, kind.octet()], head, tail, &[]);
     }
     let [high, low] = octets((size + 4) as u16);
-    join(alloc, &[0x01, high, low, kind.octet()], head, tail)
-}
-
-/// The three slices, one after the other.
-#[inline(always)]
-fn join(alloc: Global, front: &[u8], head: &[u8], tail: &[u8]) -> Result<Vec<u8>, AllocError>
-    requires { length front.now + length head.now + length tail.now ≤ MAX_DATAGRAM }
-    ensures { IfOk result (λ v. v.items ≡ front.now ++ head.now ++ tail.now) }
-{
-    let mut bytes = Vec::with_capacity(alloc, front.len() + head.len() + tail.len())?;
-    bytes.extend_from_slice(front)?;
-    bytes.extend_from_slice(head)?;
-    bytes.extend_from_slice(tail)?;
-    Ok(bytes)
+    Octets::joined(alloc, &[0x01, high, low, kind.octet()], head, tail, &[])
 }
 
 /// The two octets of a number, the high one first.

@@ -6,7 +6,7 @@ pub returns-clause-ok : goal.returns-clause-ok
 returns-clause-ok c =
     Adds-step c.args.event _ _ _ _ _ (record {
       outs = c.in_ok-outs.outs;
-      kept = c.in_ok-outs.ensures.kept;
+      kept = rw c.reuse.ensures c.in_ok-outs.ensures.kept;
       counted = refl;
       printed = refl;
       same = refl;
