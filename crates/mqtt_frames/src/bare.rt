@@ -9,8 +9,33 @@ use crate::{Packet, PacketFault, first, remaining};
 use sng_text::Octets;
 use std::alloc::{AllocError, Global};
 
+/// A PINGREQ, where no byte stands behind its fixed header (3.12). It and the two below stand apart: few packets are
+/// of their kinds, and what they answer would else be moved for each.
+#[inline(never)]
+pub fn ping_request_of(body: &[u8]) -> Result<Packet, ReadFault>
+    ensures { Gives (λ packet. packet) result (at_end Packet.PingRequest body.now) }
+{
+    at_end(Packet::PingRequest, body)
+}
+
+/// A PINGRESP, where no byte stands behind its fixed header (3.13).
+#[inline(never)]
+pub fn ping_response_of(body: &[u8]) -> Result<Packet, ReadFault>
+    ensures { Gives (λ packet. packet) result (at_end Packet.PingResponse body.now) }
+{
+    at_end(Packet::PingResponse, body)
+}
+
+/// A DISCONNECT, where no byte stands behind its fixed header (3.14).
+#[inline(never)]
+pub fn disconnect_of(body: &[u8]) -> Result<Packet, ReadFault>
+    ensures { Gives (λ packet. packet) result (at_end Packet.Disconnect body.now) }
+{
+    at_end(Packet::Disconnect, body)
+}
+
 /// The packet, where no byte stands behind its fixed header.
-pub fn at_end(packet: Packet, body: &[u8]) -> Result<Packet, ReadFault>
+fn at_end(packet: Packet, body: &[u8]) -> Result<Packet, ReadFault>
     ensures { Gives (λ packet. packet) result (at_end packet body.now) }
 {
     match body {

@@ -5,7 +5,7 @@ ghost use Rattle.std.specs.Prelude.{IfOk, OnOk, OnErr};
 ghost use Rattle.std.specs.List.{list_any};
 ghost use Rattle.sng_book.specs.declared.out.Out.{Out as out_type};
 ghost use Rattle.sng_history.specs.Links.{wants, may_open, opened, is_open};
-ghost use Rattle.sng_history.specs.Exits.{packet_of, forwarded, unsubscribe_packet};
+ghost use Rattle.sng_history.specs.Exits.{acknowledged, forwarded, packet_of, pinging, unsubscribe_packet};
 ghost use Rattle.sng_history.specs.Verdicts.{exit};
 ghost use Rattle.sng_link.specs.Flights.{link_of};
 ghost use Rattle.sng_link.specs.Steps.{marked, forth_marks, Logged};
@@ -198,14 +198,8 @@ fn leaves(
         }
         Item::Subscribe(filter) => subscribes(alloc, wanted, filter, next, outs),
         Item::Unsubscribe(filter) => unsubscribes(alloc, wanted, filter, next, outs),
-        Item::Acknowledge(packet_id) => {
-            outs.push(Out::Wire(encode_publish_ack(alloc, *packet_id)?))?;
-            Ok(no_step())
-        }
-        Item::Ping => {
-            outs.push(Out::Wire(encode_ping_request(alloc)?))?;
-            Ok(no_step())
-        }
+        Item::Acknowledge(packet_id) => acknowledges(alloc, *packet_id, outs),
+        Item::Ping => pings(alloc, outs),
     }
 }
 
@@ -226,6 +220,26 @@ fn step_under(packet_id: Option<u16>) -> Step
         owed: false,
         owes: None,
     }
+}
+
+/// A PUBACK goes out (3.4).
+#[inline(never)]
+fn acknowledges(alloc: Global, packet_id: u16, outs: &mut Outs) -> Result<Step, AllocError>
+    ensures outs { OnOk result (outs.new ≡ outs.old ++ acknowledged packet_id ∷ []) }
+    ensures step { IfOk result (λ step. step ≡ no_step) }
+{
+    outs.push(Out::Wire(encode_publish_ack(alloc, packet_id)?))?;
+    Ok(no_step())
+}
+
+/// A PINGREQ goes out (3.12).
+#[inline(never)]
+fn pings(alloc: Global, outs: &mut Outs) -> Result<Step, AllocError>
+    ensures outs { OnOk result (outs.new ≡ outs.old ++ pinging ∷ []) }
+    ensures step { IfOk result (λ step. step ≡ no_step) }
+{
+    outs.push(Out::Wire(encode_ping_request(alloc)?))?;
+    Ok(no_step())
 }
 
 /// A SUBSCRIBE has to leave where its filter is wanted (3.8).

@@ -66,8 +66,8 @@ pub fn body_of(alloc: Global, kind: Kind, body: &[u8]) -> Result<Packet, ReadFau
         Kind::SubscribeAck => subscribe::subscribe_ack_of(alloc, body),
         Kind::Unsubscribe => unsubscribe::unsubscribe_of(alloc, body),
         Kind::UnsubscribeAck => Ok(Packet::UnsubscribeAck(acknowledgements::whole_id(body)?)),
-        Kind::PingRequest => bare::at_end(Packet::PingRequest, body),
-        Kind::PingResponse => bare::at_end(Packet::PingResponse, body),
-        Kind::Disconnect => bare::at_end(Packet::Disconnect, body),
+        Kind::PingRequest => bare::ping_request_of(body),
+        Kind::PingResponse => bare::ping_response_of(body),
+        Kind::Disconnect => bare::disconnect_of(body),
     }
 }
