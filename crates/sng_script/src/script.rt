@@ -1,5 +1,5 @@
 //! The lines of a script. Words are parted by one space.
-ghost use Rattle.std.specs.Prelude.{◌≡◌, Some, IfOk, IfErr};
+ghost use Rattle.std.specs.Prelude.{◌≡◌, ◌≢◌, Some, IfOk, IfErr, codes};
 ghost use Rattle.sng_script.specs.Lines.{line_of, word_line, words_line, policy_line, from_line, broker_line};
 ghost use Rattle.sng_script.specs.Lines.{tick_line};
 ghost use Rattle.sng_script.specs.Obstacles.{fault_of};
@@ -43,26 +43,27 @@ pub fn line_of(alloc: Global, line: &[u8]) -> Result<Line, LineFault>
     ensures err { IfErr result (λ fault. fault ≡ fault_of (line_of line.now)) }
 {
     match parted(line, b' ') {
-        None => word_line(line).ok_or(LineFault::Unreadable),
+        None => word_line(line),
         Some((word, rest)) => words_line(alloc, word, rest),
     }
 }
 
 /// What a line of one word says, or of none.
 #[inline(never)]
-fn word_line(word: &[u8]) -> Option<Line>
-    ensures { result ≡ word_line word.now }
+fn word_line(word: &[u8]) -> Result<Line, LineFault>
+    ensures ok { IfOk result (λ said. word_line word.now ≡ Some said) }
+    ensures err { IfErr result (λ fault. fault ≡ fault_of (word_line word.now)) }
 {
     if word.is_empty() {
-        Some(Line::Empty)
+        Ok(Line::Empty)
     } else if word == b"up".as_slice() {
-        Some(Line::Event(Event::Up))
+        Ok(Line::Event(Event::Up))
     } else if word == b"down".as_slice() {
-        Some(Line::Event(Event::Down))
+        Ok(Line::Event(Event::Down))
     } else if word == b"take".as_slice() {
-        Some(Line::Event(Event::Take))
+        Ok(Line::Event(Event::Take))
     } else {
-        None
+        Err(LineFault::Unreadable)
     }
 }
 
@@ -71,12 +72,25 @@ fn words_line(alloc: Global, word: &[u8], rest: &[u8]) -> Result<Line, LineFault
     ensures ok { IfOk result (λ said. words_line word.now rest.now ≡ Some said) }
     ensures err { IfErr result (λ fault. fault ≡ fault_of (words_line word.now rest.now)) }
 {
-    if word == b"policy".as_slice() {
-        policy_line(alloc, rest)
-    } else if word == b"from".as_slice() {
+    if word == b"from".as_slice() {
         from_line(alloc, rest)
     } else if word == b"broker".as_slice() {
         broker_line(alloc, rest)
+    } else {
+        other_line(alloc, word, rest)
+    }
+}
+
+/// The same for the words that few lines begin with, apart: what it answers would else be moved for each line.
+#[inline(never)]
+fn other_line(alloc: Global, word: &[u8], rest: &[u8]) -> Result<Line, LineFault>
+    requires from { word.now ≢ codes "from" }
+    requires broker { word.now ≢ codes "broker" }
+    ensures ok { IfOk result (λ said. words_line word.now rest.now ≡ Some said) }
+    ensures err { IfErr result (λ fault. fault ≡ fault_of (words_line word.now rest.now)) }
+{
+    if word == b"policy".as_slice() {
+        policy_line(alloc, rest)
     } else if word == b"tick".as_slice() {
         tick_line(rest).ok_or(LineFault::Unreadable)
     } else {
@@ -114,7 +128,6 @@ fn from_line(alloc: Global, words: &[u8]) -> Result<Line, LineFault>
 }
 
 /// A piece of bytes came from the broker.
-#[inline(never)]
 fn broker_line(alloc: Global, digits: &[u8]) -> Result<Line, LineFault>
     ensures ok { IfOk result (λ said. broker_line digits.now ≡ Some said) }
     ensures err { IfErr result (λ fault. fault ≡ fault_of (broker_line digits.now)) }
