@@ -1,12 +1,13 @@
 //! A PUBLISH of a client at QoS 0 or 1 (MQTT-SN 1.2, 5.4.12, 5.4.13 and 6.6): what is let out is planned
 //! first, with the room for what comes to wait, and what changes cannot fail.
-ghost use Rattle.std.specs.Prelude.{◌≡◌, ◌<◌, ◌∷◌, ◌++◌, [], length, Some, IfOk, OnOk, OnErr};
-ghost use Rattle.sng_frames.specs.Writing.{written};
-ghost use Rattle.sng_history.specs.Answers.{puback};
-ghost use Rattle.sng_history.specs.State.{qos_of};
+ghost use Rattle.std.specs.Prelude.{◌≡◌, ◌<◌, ◌∷◌, ◌++◌, [], length, true, Some, IfOk, IfSome, OnOk, OnErr};
 ghost use Rattle.std.specs.Option.{option_copied};
 ghost use Rattle.sng_grants.specs.Sources.{scope_of};
 ghost use Rattle.sng_grants.specs.declared.policy.Policy.{Policy};
+ghost use Rattle.sng_frames.specs.Writing.{written};
+ghost use Rattle.sng_book.specs.Denials.{is_allowed};
+ghost use Rattle.sng_history.specs.Answers.{puback};
+ghost use Rattle.sng_history.specs.State.{qos_of};
 ghost use Rattle.sng_history.specs.Verdicts.{name_in};
 ghost use Rattle.sng_core.specs.Forms.{client_at, publish_judged, sent_to};
 ghost use Rattle.sng_core.specs.Forms.{publish_named, publish_reply, publish_noted, publication_by};
@@ -43,26 +44,18 @@ impl Parts {
     {
         let room = self.room(qos_of(publish.flags.qos));
         let judged = judged(alloc, &self.policy, room, &self.sessions, place, &publish)?;
-        let Ok(outs) = noted(alloc, &publish, &self.sessions, place, &judged) else {
-            return out_of_memory((publish, judged));
-        };
+        if judged.outcome.is_allowed() {
+            self.link.room(1)?;
+        }
+        let outs = noted(alloc, &publish, &self.sessions, place, &judged)?;
         let Ok(asked) = publication(self.sessions.id(place), publish, judged) else {
             return out_of_memory(outs);
         };
-        match asked {
-            Some(publication) => {
-                let Ok(()) = self.link.room(1) else {
-                    return out_of_memory((outs, publication));
-                };
-                self.sessions.hear(place, self.clock);
-                self.link.push(publication);
-                Ok(outs)
-            }
-            None => {
-                self.sessions.hear(place, self.clock);
-                Ok(outs)
-            }
+        self.sessions.hear(place, self.clock);
+        if let Some(publication) = asked {
+            self.link.push(publication);
         }
+        Ok(outs)
     }
 }
 
@@ -220,7 +213,8 @@ pub fn publication(
     publish: Publish,
     judged: Judged,
 ) -> Result<Option<Publication>, AllocError>
-    ensures { IfOk result (λ asked. asked ≡ publication_by id.now publish judged.name judged.outcome) }
+    ensures asked { IfOk result (λ asked. asked ≡ publication_by id.now publish judged.name judged.outcome) }
+    ensures allowed { IfOk result (λ asked. IfSome asked (λ _. is_allowed judged.outcome ≡ true)) }
 {
     let Judged { name, outcome } = judged;
     let Some(name) = name else {

@@ -11,7 +11,6 @@ use crate::verdict::source_name;
 use sng_book::{Decision, Denial, GrantDenial, Out, Outcome, OutsPair, Who};
 use sng_frames::Publish;
 use sng_outbox::{Origin, Publication};
-use sng_sessions::out_of_memory;
 use sng_text::{Qos, TopicName};
 use std::alloc::{AllocError, Global};
 
@@ -28,14 +27,15 @@ impl Parts {
             (asked_by (Some publish) (source_ask self.old source publish))) }
         ensures err { OnErr result (self.new ≡ self.old) }
     {
-        if !self.policy.lists_source(source) {
-            let rule = Denial::ungranted(alloc, GrantDenial::UnknownSource)?;
-            return publish_denied(alloc, Who::Source(source), rule);
-        }
-        match source_name(alloc, &self.policy, publish.flags.id_type, publish.topic_id)? {
-            Ok(name) => self.named_ask(alloc, source, name, publish),
-            Err(rule) => publish_denied(alloc, Who::Source(source), rule),
-        }
+        let rule = if self.policy.lists_source(source) {
+            match source_name(alloc, &self.policy, publish.flags.id_type, publish.topic_id)? {
+                Ok(name) => return self.named_ask(alloc, source, name, publish),
+                Err(rule) => rule,
+            }
+        } else {
+            Denial::ungranted(alloc, GrantDenial::UnknownSource)?
+        };
+        publish_denied(alloc, Who::Source(source), rule)
     }
 
     /// A listed source asks for a publish under this name.
@@ -52,25 +52,19 @@ impl Parts {
         ensures err { OnErr result (self.new ≡ self.old) }
     {
         let origin = Origin::Source(source);
-        let Ok(verdict) = self.verdict(alloc, &origin, &name, Qos::AtMostOnce) else {
-            return out_of_memory((origin, name, publish));
-        };
+        let verdict = self.verdict(alloc, &origin, &name, Qos::AtMostOnce)?;
         let is_allowed = verdict.is_allowed();
-        let Ok(outs) = asked_outs(alloc, source, &name, verdict) else {
-            return out_of_memory((origin, name, publish));
-        };
         if is_allowed {
-            let Ok(()) = self.link.room(1) else {
-                return out_of_memory((outs, origin, name, publish));
-            };
-            let retain = publish.flags.retain;
-            let payload = publish.payload;
+            self.link.room(1)?;
+        }
+        let outs = asked_outs(alloc, source, &name, verdict)?;
+        if is_allowed {
             self.link.push(Publication {
                 origin,
                 name,
-                payload,
+                payload: publish.payload,
                 qos: Qos::AtMostOnce,
-                retain,
+                retain: publish.flags.retain,
             });
         }
         Ok(outs)

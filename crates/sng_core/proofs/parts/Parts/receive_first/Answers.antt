@@ -61,7 +61,7 @@ returns-in_ok-room-in-Some-clause-next c =
     c.in_ok-judged.ensures in
     let asked_is =
     asked_of p place s c.id.result.now j c.in_ok-asked.asked (Some c.in-Some.publication)
-    c.in_ok-asked.ensures c.in-Some.is c.id.ensures in
+    c.in_ok-asked.ensures.asked c.in-Some.is c.id.ensures in
     first_made s p place j (Some c.in-Some.publication) _ _ inside judged_is asked_is
     (ap (λ (l : LinkRoom). l.link) c.push.ensures.next
     ∙ ap (λ (link : Link). with_item link (item.Publish c.in-Some.publication)) c.room.ensures.link)
@@ -91,7 +91,7 @@ returns-in-None-clause-next c =
     judged_of s c.args.self.now p place c.once_room-room.result j c.self.view_is c.once_room-room.ensures
     c.in_ok-judged.ensures in
     let asked_is =
-    asked_of p place s c.id.result.now j c.in_ok-asked.asked None c.in_ok-asked.ensures c.in-None.is
+    asked_of p place s c.id.result.now j c.in_ok-asked.asked None c.in_ok-asked.ensures.asked c.in-None.is
     c.id.ensures in
     first_made s p place j None _ _ inside judged_is asked_is (joined_none s.link) c.hear.ensures
     ∙ ap (λ t. first_next t p place) c.self.view_is
