@@ -115,7 +115,7 @@ def twenty_devices_at_once(room):
     heard = room.subscriber(broker, 'd/#', 100)
     policy = {'version': 1, 'clients': {name: [['d/' + name, ['pub']]] for name in names}}
     gateway = room.gateway(broker.port, workers=4, policy=policy)
-    faults = []
+    faults, together = [], threading.Barrier(len(names))
 
     def live(name):
         try:
@@ -123,12 +123,14 @@ def twenty_devices_at_once(room):
             device.connect(name)
             topic = device.register('d/' + name)
             for number in range(5):
-                # All pause for longer than a wait of a worker lasts, so that the next one's turn comes
+                # All pause together, and for longer than a wait of a worker lasts, so that the next one's turn comes
+                together.wait(30)
                 time.sleep(0.3)
                 device.publish(topic, b'%d' % number)
             device.leave()
-        except (Failure, OSError) as fault:
-            faults.append('%s: %s' % (name, fault))
+        except (Failure, OSError, threading.BrokenBarrierError) as fault:
+            together.abort()
+            faults.append('%s: %r' % (name, fault))
     threads = [threading.Thread(target=live, args=(name,)) for name in names]
     for thread in threads:
         thread.start()
