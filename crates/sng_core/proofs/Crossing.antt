@@ -5,6 +5,7 @@ use Rattle.sng_book.proofs.room.OutsRoom.TheSendSync as outs_room
 use Rattle.sng_link.proofs.link.Link.TheSendSync as link
 use Rattle.sng_policy.proofs.in_force.InForce.TheSendSync as in_force
 use Rattle.sng_sessions.proofs.Crossing.{sessions_send}
+use Rattle.sng_turns.proofs.Crossing.{room_send}
 use Rattle.sng_core.specs.contracts.parts.Parts as Parts
 use Rattle.sng_core.specs.contracts.parts.Parts.TheInside as parts
 use Rattle.sng_core.specs.contracts.machine.Core as Core
@@ -13,7 +14,10 @@ use Rattle.sng_core.specs.contracts.machine.Core.TheInside as core
 parts_fields : IsSend (parts.the_field).row
 parts_fields = struct_send (shape parts.the_type) (
   in_force.the_send,
-  (search sendable, (search sendable, (link.the_send, (sessions_send, (outs_room.the_send, tt))))),
+  (
+    search sendable,
+    (search sendable, (link.the_send, (sessions_send, (outs_room.the_send, (room_send, tt))))),
+  ),
 )
 
 parts_inside : IsSend parts.the_row

@@ -91,14 +91,15 @@ impl Parts {
 
     /// What the message lets out for each client, or that its name is none. Answers what is kept of it.
     fn delivered(
-        &self,
+        &mut self,
         alloc: Global,
         publish: Publish,
         outs: &mut Outs,
     ) -> Result<Vec<Kept>, AllocError>
         ensures outs { OnOk result (outs.new
-            ≡ outs.old ++ (named_outs self.now publish ++ misnamed publish.name)) }
-        ensures kept { IfOk result (λ kept. kept.items ≡ named_kept self.now publish) }
+            ≡ outs.old ++ (named_outs self.old publish ++ misnamed publish.name)) }
+        ensures kept { IfOk result (λ kept. kept.items ≡ named_kept self.old publish) }
+        ensures same { self.new ≡ self.old }
     {
         let Publish {
             dup: _,
@@ -117,7 +118,10 @@ impl Parts {
                     qos: sent_at(packet_id),
                     fixed,
                 };
-                let kept = deliver(alloc, &self.policy, &message, &self.sessions, outs)?;
+                let mut room = self.holders.take(alloc);
+                let (policy, sessions) = (&self.policy, &self.sessions);
+                let kept = deliver(alloc, policy, &message, sessions, &mut room, outs)?;
+                self.holders.give_back(room);
                 Ok(kept)
             }
             Err(_) => {

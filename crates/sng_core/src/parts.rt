@@ -6,6 +6,7 @@ use sng_book::OutsRoom;
 use sng_link::Link;
 use sng_policy::InForce;
 use sng_sessions::Sessions;
+use sng_turns::room::HoldersRoom;
 use std::alloc::{AllocError, Global};
 use std::marker::Model;
 
@@ -19,6 +20,8 @@ pub struct Parts {
     pub sessions: Sessions,
     /// Room for what steps let out, which no state knows.
     pub spare: OutsRoom,
+    /// Room for the list of those for whom a message is, which no state knows either.
+    pub holders: HoldersRoom,
 }
 
 impl Model for Parts {
@@ -49,6 +52,7 @@ impl Parts {
             link: Link::new(alloc)?,
             sessions: Sessions::new(alloc),
             spare: OutsRoom::new(alloc),
+            holders: HoldersRoom::new(alloc),
         })
     }
 }

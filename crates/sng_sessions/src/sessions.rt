@@ -231,13 +231,18 @@ impl Sessions {
         self.clients[place].filters.stands(filter)
     }
 
-    /// The clients for whom a filter stands that matches the name, by their places and in order, each once
-    /// and with the greatest QoS among its filters that match. Looks at no other client. Only memory can
-    /// fail.
-    pub fn holders(&self, alloc: Global, name: &TopicName) -> Result<Vec<Holder>, AllocError>
-        ensures { IfOk result (λ list. list.items ≡ holders_from 0 name.now self.now) }
+    /// Leaves in the list the clients for whom a filter stands that matches the name, by their places and in
+    /// order, each once and with the greatest QoS among its filters that match. Looks at no other client. The
+    /// list keeps its room. Only memory can fail, and an `Err` may leave any list.
+    pub fn holders(
+        &self,
+        alloc: Global,
+        name: &TopicName,
+        list: &mut Vec<Holder>,
+    ) -> Result<(), AllocError>
+        ensures { OnOk result (list.new.items ≡ holders_from 0 name.now self.now) }
     {
-        self.standing.holders(alloc, name)
+        self.standing.holders(alloc, name, list)
     }
 
     /// The places of the clients for whom the filter stands, in order. Looks at no other client. Only memory

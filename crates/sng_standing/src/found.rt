@@ -25,17 +25,18 @@ pub(crate) fn reach<'a>(
     Ok(())
 }
 
-/// Those who hold one of these filters, in order of their numbers, each once and with its greatest QoS. Those
-/// who hold one filter are in order already.
+/// Leaves in the list those who hold one of these filters, in order of their numbers, each once and with its
+/// greatest QoS. Those who hold one filter are in order already.
 pub(crate) fn holders_of(
     alloc: Global,
     found: &[&BTreeMap<usize, Qos>],
-) -> Result<Vec<Holder>, AllocError>
-    ensures { IfOk result (λ list. AreFound found.now list.items) }
+    list: &mut Vec<Holder>,
+) -> Result<(), AllocError>
+    ensures { OnOk result (AreFound found.now list.new.items) }
 {
     match only(found) {
-        Some(one) => listed(alloc, one),
-        None => listed(alloc, &together(alloc, found)?),
+        Some(one) => put_list(one, list),
+        None => put_list(&together(alloc, found)?, list),
     }
 }
 
@@ -92,17 +93,18 @@ fn gather(
     Ok(())
 }
 
-/// Those that were found, in order of their numbers.
-fn listed(alloc: Global, found: &BTreeMap<usize, Qos>) -> Result<Vec<Holder>, AllocError>
-    ensures list { IfOk result (λ list. list.items ≡ map holder_of found.now.entries) }
+/// Leaves in the list those that were found, in order of their numbers, in place of what it held.
+fn put_list(found: &BTreeMap<usize, Qos>, list: &mut Vec<Holder>) -> Result<(), AllocError>
+    ensures list { OnOk result (list.new.items ≡ map holder_of found.now.entries) }
     ensures ordered { IsOrdered nat_cmp found.now }
 {
-    let mut list = Vec::with_capacity(alloc, found.len())?;
+    list.clear();
+    list.reserve(found.len())?;
     for (client, qos) in found {
         list.push(Holder {
             client: *client,
             qos: *qos,
         })?;
     }
-    Ok(list)
+    Ok(())
 }

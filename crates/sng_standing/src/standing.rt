@@ -121,13 +121,19 @@ impl Standing {
         }
     }
 
-    /// The clients that hold a filter which matches the name, in order of their numbers, each once and with
-    /// the greatest QoS among its filters that match. Only memory can fail.
-    pub fn holders(&self, alloc: Global, name: &TopicName) -> Result<Vec<Holder>, AllocError>
-        ensures { IfOk result (λ list. AreHolders self.now name.now list.items) }
+    /// Leaves in the list the clients that hold a filter which matches the name, in order of their numbers,
+    /// each once and with the greatest QoS among its filters that match. The list keeps its room. Only memory
+    /// can fail, and an `Err` may leave any list.
+    pub fn holders(
+        &self,
+        alloc: Global,
+        name: &TopicName,
+        list: &mut Vec<Holder>,
+    ) -> Result<(), AllocError>
+        ensures { OnOk result (AreHolders self.now name.now list.new.items) }
     {
         let mut found = Vec::new(alloc);
         find(&self.root, name.text(), &mut found)?;
-        holders_of(alloc, found.as_slice())
+        holders_of(alloc, found.as_slice(), list)
     }
 }

@@ -1,3 +1,4 @@
 pub mod KnownLemmas
 pub mod DeliverLemmas
 mod HolderLemmas
+pub mod Crossing

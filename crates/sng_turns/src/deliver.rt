@@ -13,6 +13,7 @@ ghost use Rattle.sng_turns.specs.Delivering.{all_outs, all_kept, keep_all};
 
 use crate::hand_over::is_open;
 use crate::known::{KnownId, known_id};
+use crate::room::HoldersRoom;
 use crate::turn::{Mail, Recipient, note_hand, take_turn};
 use sng_book::{Denial, Outcome, Outs, Place, RoomDenial};
 use sng_history::receive;
@@ -55,14 +56,15 @@ pub fn deliver(
     policy: &InForce,
     message: &Incoming,
     sessions: &Sessions,
+    room: &mut HoldersRoom,
     outs: &mut Outs,
 ) -> Result<Vec<Kept>, AllocError>
     requires { message.now.fixed ≡ fixed_id policy.now message.now.content.name }
     ensures outs { OnOk result (outs.new ≡ outs.old ++ all_outs policy.now message.now sessions.now) }
     ensures kept { IfOk result (λ kept. kept.items ≡ all_kept policy.now message.now 0 sessions.now) }
 {
-    let holders = sessions.holders(alloc, message.content.name())?;
-    deliver_each(alloc, policy, message, sessions, holders.as_slice(), outs)
+    sessions.holders(alloc, message.content.name(), &mut room.list)?;
+    deliver_each(alloc, policy, message, sessions, room.list.as_slice(), outs)
 }
 
 /// The message goes to each of these clients, with the greatest QoS among its filters that match, where it is

@@ -7,5 +7,6 @@ pub mod again;
 pub mod deliver;
 pub mod hand_over;
 pub mod known;
+pub mod room;
 pub mod serve;
 pub mod turn;
