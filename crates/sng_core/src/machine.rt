@@ -52,12 +52,12 @@ impl Core {
         Ok(outs)
     }
 
-    /// Takes back what a step let out, once it is read: the next that lets out as many takes no memory for their
-    /// list. Takes no memory.
-    pub fn reuse(&mut self, alloc: Global, outs: OutsPair)
+    /// Takes back what a step let out, once it is read: the next that lets out as many takes no memory for
+    /// them. Takes no memory.
+    pub fn reuse(&mut self, outs: OutsPair)
         ensures { self.new ≡ self.old }
     {
-        self.parts.spare.give_back(alloc, outs);
+        self.parts.spare.give_back(outs);
     }
 
     /// What is counted of the state: clients by state, what stands and waits for them, what waits for the

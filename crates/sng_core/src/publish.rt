@@ -16,7 +16,7 @@ ghost use Rattle.sng_core.specs.Forms.{carried_outs, carried};
 use crate::answers::code_of;
 use crate::parts::Parts;
 use crate::verdict::{Judged, and_then, client_name, copy_name, may_ask_by, unread};
-use sng_book::{Address, Decision, Denial, Out, Outcome, OutsPair, Who};
+use sng_book::{Address, Decision, Denial, Out, Outcome, OutsPair, OutsRoom, Who};
 use sng_frames::{
     FrameQos, Publish, ReturnCode, SnFrame, TopicAck, TopicIdType, write_publish_ack,
 };
@@ -47,7 +47,14 @@ impl Parts {
         if judged.outcome.is_allowed() {
             self.link.room(1)?;
         }
-        let outs = noted(alloc, &publish, &self.sessions, place, &judged)?;
+        let outs = noted(
+            alloc,
+            &mut self.spare,
+            &publish,
+            &self.sessions,
+            place,
+            &judged,
+        )?;
         let Ok(asked) = publication(self.sessions.id(place), publish, judged) else {
             return out_of_memory(outs);
         };
@@ -140,6 +147,7 @@ fn judged_name(
 /// The note, and the PUBACK.
 fn noted(
     alloc: Global,
+    spare: &mut OutsRoom,
     publish: &Publish,
     sessions: &Sessions,
     place: usize,
@@ -153,8 +161,8 @@ fn noted(
     let reply = reply(alloc, publish, &judged.outcome)?;
     let note = ask_noted(sessions, place, judged)?;
     match reply {
-        Some(datagram) => OutsPair::two(alloc, note, Out::Send(to, datagram)),
-        None => OutsPair::one(alloc, note),
+        Some(datagram) => spare.two(alloc, note, Out::Send(to, datagram)),
+        None => spare.one(alloc, note),
     }
 }
 

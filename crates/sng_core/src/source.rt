@@ -8,7 +8,7 @@ ghost use Rattle.sng_core.specs.Forms.{joined};
 use crate::answers::only;
 use crate::parts::Parts;
 use crate::verdict::source_name;
-use sng_book::{Decision, Denial, GrantDenial, Out, Outcome, OutsPair, Who};
+use sng_book::{Decision, Denial, GrantDenial, Out, Outcome, OutsPair, OutsRoom, Who};
 use sng_frames::Publish;
 use sng_outbox::{Origin, Publication};
 use sng_text::{Qos, TopicName};
@@ -57,7 +57,7 @@ impl Parts {
         if is_allowed {
             self.link.room(1)?;
         }
-        let outs = asked_outs(alloc, source, &name, verdict)?;
+        let outs = asked_outs(alloc, &mut self.spare, source, &name, verdict)?;
         if is_allowed {
             self.link.push(Publication {
                 origin,
@@ -74,6 +74,7 @@ impl Parts {
 /// A source asked for a publish under this name.
 fn asked_outs(
     alloc: Global,
+    spare: &mut OutsRoom,
     source: [u8; 4],
     name: &TopicName,
     verdict: Outcome,
@@ -82,7 +83,7 @@ fn asked_outs(
         ≡ Out.Note (Decision.Publish (Who.Source source) (Some name.now) verdict) ∷ []) }
 {
     let name = name.copy()?;
-    only(
+    spare.one(
         alloc,
         Out::Note(Decision::Publish(Who::Source(source), Some(name), verdict)),
     )

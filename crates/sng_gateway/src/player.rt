@@ -152,7 +152,7 @@ impl Player {
         let outs = self.core.step(self.alloc, event)?;
         self.rows += 1;
         push_row(&mut self.text, self.rows, 0, kind, outs.as_slice())?;
-        self.core.reuse(self.alloc, outs);
+        self.core.reuse(outs);
         Ok(())
     }
 }
