@@ -1,3 +1,4 @@
+pub mod DigitLemmas
 pub mod InputLemmas
 pub mod NumberLemmas
 pub mod PieceLemmas

@@ -5,3 +5,4 @@ pub mod Refused
 pub mod Input
 pub mod Laws
 pub mod EventTexts
+pub mod Digits

@@ -6,6 +6,7 @@ ghost use Rattle.sng_script.specs.Lines.{datagram_of, piece_of};
 ghost use Rattle.sng_script.specs.Obstacles.{fault_of};
 ghost use Rattle.sng_text.specs.declared.kept.TheConstants.{MOST_SHORT};
 
+use crate::digits::read_digits;
 use crate::script::LineFault;
 use sng_text::{MOST_SHORT, Octets};
 use std::alloc::Global;
@@ -33,11 +34,14 @@ pub fn read_piece(alloc: Global, digits: &[u8]) -> Result<Octets, LineFault>
     if digits.len() <= 2 * MOST_SHORT {
         return read_few(alloc, digits);
     }
-    match hex::decode(alloc, digits) {
-        Ok(bytes) => Ok(Octets::from(bytes)),
-        // memory is taken before the digits are read, so that its want says nothing of them
-        Err(_) => Err(fault_of(digits)),
+    // memory is taken before the digits are read, so that its want says nothing of them
+    let Ok(mut bytes) = vec![in alloc; 0; digits.len() / 2] else {
+        return Err(fault_of(digits));
+    };
+    if !read_digits(digits, &mut bytes) {
+        return Err(LineFault::Unreadable);
     }
+    Ok(Octets::from(bytes))
 }
 
 /// The same for as few bytes as `Octets` keep in line, which are put together without memory of their own.
@@ -49,10 +53,10 @@ fn read_few(alloc: Global, digits: &[u8]) -> Result<Octets, LineFault>
 {
     let mut room = [0; MOST_SHORT];
     let bytes = &mut room[..digits.len() / 2];
-    match hex::decode_to_slice(digits, bytes) {
-        Ok(()) => Octets::of(alloc, bytes).map_err(|_| LineFault::Memory),
-        Err(_) => Err(LineFault::Unreadable),
+    if !read_digits(digits, bytes) {
+        return Err(LineFault::Unreadable);
     }
+    Octets::of(alloc, bytes).map_err(|_| LineFault::Memory)
 }
 
 /// Why a text is not read as bytes: because it spells none, or else for want of memory.

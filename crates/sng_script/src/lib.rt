@@ -4,6 +4,7 @@
 
 pub mod address;
 mod datagram;
+mod digits;
 pub mod ending;
 pub mod event_line;
 pub mod file;
