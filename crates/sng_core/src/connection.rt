@@ -60,7 +60,7 @@ impl Parts {
         ensures err { OnErr result (self.new ≡ self.old) }
     {
         if !self.is_up {
-            return Ok(OutsPair::empty(alloc));
+            return Ok(OutsPair::empty());
         }
         let outs = self.link.take(alloc, &self.policy)?;
         Ok(outs)

@@ -46,12 +46,12 @@ impl Parts {
             Packet::Publish(message) => self.deliver(alloc, message),
             Packet::PublishAck(packet_id) => {
                 self.link.acked(packet_id);
-                Ok(OutsPair::empty(alloc))
+                Ok(OutsPair::empty())
             }
             Packet::SubscribeAck(answer) => self.subscribe_answered(alloc, answer),
             // What they answer waits for nothing.
-            Packet::UnsubscribeAck(_) => Ok(OutsPair::empty(alloc)),
-            Packet::PingResponse => Ok(OutsPair::empty(alloc)),
+            Packet::UnsubscribeAck(_) => Ok(OutsPair::empty()),
+            Packet::PingResponse => Ok(OutsPair::empty()),
             // These a server does not send, or not here.
             Packet::Connect(_) => denied(alloc, Denial::Form(FormDenial::NotSupported)),
             Packet::ConnectAck(_) => denied(alloc, Denial::Form(FormDenial::NotSupported)),
@@ -148,7 +148,7 @@ impl Parts {
             Ok(outs)
         } else {
             self.link.subscribe_ack(answer.packet_id);
-            Ok(OutsPair::empty(alloc))
+            Ok(OutsPair::empty())
         }
     }
 
@@ -160,7 +160,7 @@ impl Parts {
         ensures err { OnErr result (self.new ≡ self.old) }
     {
         let Some(open) = self.link.filter_open(packet_id) else {
-            return Ok(OutsPair::empty(alloc));
+            return Ok(OutsPair::empty());
         };
         let filter = open.copy()?;
         let holding = self.sessions.holding(alloc, &filter)?;

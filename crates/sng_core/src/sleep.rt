@@ -150,7 +150,7 @@ fn pinged(
     if phase.is_active() {
         only(alloc, pong(alloc, sessions.address(place))?)
     } else if is_named && phase.is_due_messages() {
-        Ok(OutsPair::empty(alloc))
+        Ok(OutsPair::empty())
     } else {
         denied_frame(alloc, sessions, place, Denial::Form(FormDenial::OutOfTurn))
     }

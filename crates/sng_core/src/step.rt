@@ -21,7 +21,7 @@ impl Parts {
             Event::Up => self.begin_connection(alloc),
             Event::Down => {
                 self.end_connection();
-                Ok(OutsPair::empty(alloc))
+                Ok(OutsPair::empty())
             }
             Event::Take => self.take(alloc),
             Event::Replace(policy) => self.replace(alloc, policy),
