@@ -97,6 +97,7 @@ fn push_parts(
 
 /// The PUBLISH of a message that is sent for the first time: at QoS 1 with a packet identifier, and else at
 /// QoS 0. Allocates once at most, and copies the name and the payload once.
+#[inline(always)]
 pub fn write_publish(
     alloc: Global,
     name: &TopicName,

@@ -62,6 +62,7 @@ impl Parts {
     }
 
     /// A message from this address, of the client at this place, or of nobody.
+    #[inline(always)]
     fn message(
         &mut self,
         alloc: Global,

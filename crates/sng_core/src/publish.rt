@@ -43,7 +43,7 @@ impl Parts {
         ensures err { OnErr result (self.new ≡ self.old) }
     {
         let room = self.room(qos_of(publish.flags.qos));
-        let judged = judged(alloc, &self.policy, room, &self.sessions, place, &publish)?;
+        let judged = judged(alloc, &self.policy, &room, &self.sessions, place, &publish)?;
         if judged.outcome.is_allowed() {
             self.link.room(1)?;
         }
@@ -82,13 +82,13 @@ fn qos_of(qos: FrameQos) -> Qos
 pub fn judged(
     alloc: Global,
     policy: &InForce,
-    room: Outcome,
+    room: &Outcome,
     sessions: &Sessions,
     place: usize,
     publish: &Publish,
 ) -> Result<Judged, AllocError>
     requires { place < length sessions.now }
-    ensures { IfOk result (λ j. j ≡ publish_judged policy.now room (client_at sessions.now place)
+    ensures { IfOk result (λ j. j ≡ publish_judged policy.now room.now (client_at sessions.now place)
         publish.now.flags.id_type publish.now.topic_id) }
 {
     let scope = policy.scope(sessions.id(place));
@@ -122,7 +122,7 @@ fn name_read(
 fn judged_name(
     alloc: Global,
     scope: Option<&Scope>,
-    room: Outcome,
+    room: &Outcome,
     sessions: &Sessions,
     place: usize,
     named: Result<TopicName, Denial>,
@@ -130,11 +130,14 @@ fn judged_name(
     requires { place < length sessions.now }
     ensures { (policy : Policy) → option_copied scope.entry
         ≡ scope_of policy.clients (client_at sessions.now place).id
-        → IfOk result (λ j. j ≡ publish_named policy room (client_at sessions.now place) named) }
+        → IfOk result (λ j. j ≡ publish_named policy room.now (client_at sessions.now place) named) }
 {
     match named {
         Ok(name) => {
-            let outcome = and_then(exit_by(alloc, scope, sessions.id(place), &name)?, room);
+            let outcome = and_then(
+                exit_by(alloc, scope, sessions.id(place), &name)?,
+                room.copy()?,
+            );
             Ok(Judged {
                 name: Some(name),
                 outcome,
@@ -167,6 +170,7 @@ fn noted(
 }
 
 /// The note of an ask to publish, of the client at this place.
+#[inline(always)]
 pub fn ask_noted(sessions: &Sessions, place: usize, judged: &Judged) -> Result<Out, AllocError>
     requires { place < length sessions.now }
     ensures { IfOk result (λ out. out ≡ Out.Note (Decision.Publish
@@ -216,6 +220,7 @@ pub fn puback_with(alloc: Global, publish: &Publish, code: ReturnCode) -> Result
 }
 
 /// The publish that was asked for, where it was allowed. An `Err` is a failed allocation.
+#[inline(always)]
 pub fn publication(
     id: &ClientId,
     publish: Publish,

@@ -61,7 +61,8 @@ impl Parts {
         ensures err { OnErr result (self.new ≡ self.old) }
     {
         let room = self.once_room(place, &publish);
-        let judged = judged(alloc, &self.policy, room, &self.sessions, place, &publish)?;
+        let judged = judged(alloc, &self.policy, &room, &self.sessions, place, &publish)?;
+        drop(room);
         let outs = noted(alloc, &publish, &self.sessions, place, &judged)?;
         let msg_id = publish.msg_id;
         let asked = publication(self.sessions.id(place), publish, judged)?;

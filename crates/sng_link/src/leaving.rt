@@ -9,8 +9,8 @@ ghost use Rattle.sng_history.specs.Exits.{acknowledged, forwarded, packet_of, pi
 ghost use Rattle.sng_history.specs.Verdicts.{exit};
 ghost use Rattle.sng_link.specs.Flights.{link_of};
 ghost use Rattle.sng_link.specs.Steps.{marked, forth_marks, Logged};
-ghost use Rattle.sng_link.specs.Taking.{id_at, flight_id, item_outs, item_step, no_step, step_under};
-ghost use Rattle.sng_link.specs.Taking.{subscribe_outs, subscribe_step, owe_step, numbered, wanted_after};
+ghost use Rattle.sng_link.specs.Taking.{id_at, flight_id, no_step, step_under, last_after};
+ghost use Rattle.sng_link.specs.Taking.{subscribe_outs, subscribe_step, owe_step, wanted_after};
 ghost use Rattle.sng_link.specs.Taking.{owing_by, IsStep, NextIsFree, LeftBy, Stands, Planned};
 
 use crate::step::Step;
@@ -56,6 +56,7 @@ pub fn plan(
 
 /// One item leaves: what it lets out comes behind the outs, and its step behind the log. An `Err` is a failed
 /// allocation, and leaves a part of its outs: nothing else changes.
+#[inline(always)]
 pub fn leave(
     alloc: Global,
     policy: &InForce,
@@ -73,9 +74,36 @@ pub fn leave(
 {
     log.reserve(1)?;
     let next = ids.next();
-    let step = leaves(alloc, policy, wanted, item, next, outs)?;
-    go(ids, wanted, item, &step);
-    log.push_reserved(step);
+    match item {
+        // most of what leaves: its step is made where it lies
+        Item::Publish(publication) => {
+            let packet_id = forwarded(alloc, policy, publication, next, outs)?;
+            if let Some(packet_id) = packet_id {
+                ids.mark(packet_id);
+            }
+            use_up(ids, packet_id);
+            log.push_reserved(step_under(packet_id));
+        }
+        Item::Subscribe(filter) => {
+            let step = subscribes(alloc, wanted, filter, next, outs)?;
+            go_subscribe(ids, wanted, filter, &step);
+            use_up(ids, step.packet_id);
+            log.push_reserved(step);
+        }
+        Item::Unsubscribe(filter) => {
+            let step = unsubscribes(alloc, wanted, filter, next, outs)?;
+            use_up(ids, step.packet_id);
+            log.push_reserved(step);
+        }
+        Item::Acknowledge(packet_id) => {
+            acknowledges(alloc, *packet_id, outs)?;
+            log.push_reserved(no_step());
+        }
+        Item::Ping => {
+            pings(alloc, outs)?;
+            log.push_reserved(no_step());
+        }
+    }
     Ok(())
 }
 
@@ -107,24 +135,11 @@ pub fn leave_filter(
     )
 }
 
-/// An item leaves by this step: its packet id is used up, and where an answer to it is waited for it is in
-/// use. That of a SUBSCRIBE is the open one of its filter, and the former one is free (3.8 and 3.10).
-fn go(ids: &mut PacketIds, wanted: &mut Wanted, item: &Item, step: &Step)
-    requires { IsStep wanted.old.wanted item.now step.now }
-    ensures ids { ids.new ≡ numbered ids.old item.now step.now }
-    ensures wanted { wanted.new
-        ≡ record wanted.old { wanted = wanted_after wanted.old.wanted item.now step.now } }
+/// This packet id is used up, where it is one.
+fn use_up(ids: &mut PacketIds, packet_id: Option<u16>)
+    ensures { ids.new ≡ record ids.old { last = last_after ids.old.last packet_id } }
 {
-    match item {
-        Item::Subscribe(filter) => go_subscribe(ids, wanted, filter, step),
-        Item::Publish(_) => {
-            if let Some(packet_id) = step.packet_id {
-                ids.mark(packet_id);
-            }
-        }
-        Item::Unsubscribe(_) | Item::Acknowledge(_) | Item::Ping => {}
-    }
-    if let Some(packet_id) = step.packet_id {
+    if let Some(packet_id) = packet_id {
         ids.count_from(packet_id);
     }
 }
@@ -176,33 +191,6 @@ fn owe(wanted: &mut Wanted, filter: &Option<TopicFilter>)
     }
 }
 
-/// One item leaves, the next packet id being this one. What it lets out comes behind the outs, and the answer
-/// is the step by which it leaves. An `Err` is a failed allocation, and leaves a part of its outs.
-fn leaves(
-    alloc: Global,
-    policy: &InForce,
-    wanted: &Wanted,
-    item: &Item,
-    next: u16,
-    outs: &mut Outs,
-) -> Result<Step, AllocError>
-    requires { 0 < next }
-    ensures outs { OnOk result (outs.new
-        ≡ outs.old ++ item_outs policy.now wanted.now.wanted next item.now) }
-    ensures step { IfOk result (λ step. step ≡ item_step policy.now wanted.now.wanted next item.now) }
-{
-    match item {
-        Item::Publish(publication) => {
-            let packet_id = forwarded(alloc, policy, publication, next, outs)?;
-            Ok(step_under(packet_id))
-        }
-        Item::Subscribe(filter) => subscribes(alloc, wanted, filter, next, outs),
-        Item::Unsubscribe(filter) => unsubscribes(alloc, wanted, filter, next, outs),
-        Item::Acknowledge(packet_id) => acknowledges(alloc, *packet_id, outs),
-        Item::Ping => pings(alloc, outs),
-    }
-}
-
 /// Nothing is taken into use.
 fn no_step() -> Step
     ensures { result ≡ no_step }
@@ -224,22 +212,18 @@ fn step_under(packet_id: Option<u16>) -> Step
 
 /// A PUBACK goes out (3.4).
 #[inline(never)]
-fn acknowledges(alloc: Global, packet_id: u16, outs: &mut Outs) -> Result<Step, AllocError>
-    ensures outs { OnOk result (outs.new ≡ outs.old ++ acknowledged packet_id ∷ []) }
-    ensures step { IfOk result (λ step. step ≡ no_step) }
+fn acknowledges(alloc: Global, packet_id: u16, outs: &mut Outs) -> Result<(), AllocError>
+    ensures { OnOk result (outs.new ≡ outs.old ++ acknowledged packet_id ∷ []) }
 {
-    outs.push(Out::Wire(encode_publish_ack(alloc, packet_id)?))?;
-    Ok(no_step())
+    outs.push(Out::Wire(encode_publish_ack(alloc, packet_id)?))
 }
 
 /// A PINGREQ goes out (3.12).
 #[inline(never)]
-fn pings(alloc: Global, outs: &mut Outs) -> Result<Step, AllocError>
-    ensures outs { OnOk result (outs.new ≡ outs.old ++ pinging ∷ []) }
-    ensures step { IfOk result (λ step. step ≡ no_step) }
+fn pings(alloc: Global, outs: &mut Outs) -> Result<(), AllocError>
+    ensures { OnOk result (outs.new ≡ outs.old ++ pinging ∷ []) }
 {
-    outs.push(Out::Wire(encode_ping_request(alloc)?))?;
-    Ok(no_step())
+    outs.push(Out::Wire(encode_ping_request(alloc)?))
 }
 
 /// A SUBSCRIBE has to leave where its filter is wanted (3.8).

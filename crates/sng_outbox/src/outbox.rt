@@ -68,6 +68,7 @@ impl Outbox {
 
     /// Makes room for so many more items, whatever they are. An `Err` is a failed allocation, which cannot be
     /// while there is room, and nothing changes.
+    #[inline(always)]
     pub fn room(&mut self, count: usize) -> Result<(), AllocError>
         ensures sending { self.new.sending ≡ self.old.sending }
         ensures places { OnOk result (length self.new.sending.waiting + count ≤ self.new.places) }
@@ -137,11 +138,11 @@ impl Outbox {
         ensures room { IfSome result (λ item. asks_for_ack item ≡ true
             → load self.new.sending < self.new.flights) }
     {
-        let item = self.waiting.pop_front()?;
-        if item.asks_for_ack() {
+        // looked at where it lies, since to look at what was taken out would take it apart
+        if self.waiting.front()?.asks_for_ack() {
             self.acks_waiting -= 1;
         }
-        Some(item)
+        self.waiting.pop_front()
     }
 
     /// Takes every item out but the publishes, which stay in order.
@@ -195,6 +196,7 @@ impl Outbox {
 
     /// Takes the publish in flight with this packet id out, which its PUBACK ends (MQTT 3.1.1, 4.3.2), and
     /// returns whether there was one. Where there was none nothing changes. It is found by one look-up.
+    #[inline(always)]
     pub fn acked(&mut self, packet_id: u16) -> bool
         ensures found { result ≡ is_in_flight self.old.sending.in_flight packet_id }
         ensures rest { self.new ≡ record self.old {

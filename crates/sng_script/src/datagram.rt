@@ -24,6 +24,7 @@ pub fn read_datagram(alloc: Global, digits: &[u8]) -> Result<Octets, LineFault>
 
 /// The bytes of the digits, two for each, in upper or lower case. There is one byte at least. A text that is
 /// not this is unreadable, also where memory is wanting.
+#[inline(always)]
 pub fn read_piece(alloc: Global, digits: &[u8]) -> Result<Octets, LineFault>
     ensures ok { IfOk result (λ octets. piece_of digits.now ≡ Some octets) }
     ensures err { IfErr result (λ fault. fault ≡ fault_of (piece_of digits.now)) }

@@ -61,6 +61,7 @@ fn decode_octets(alloc: Global, size: usize, octets: &[u8]) -> Result<SnFrame, F
 }
 
 /// What stands behind a Length.
+#[inline(always)]
 fn decode_message(
     alloc: Global,
     stated: usize,
