@@ -23,6 +23,7 @@ use std::alloc::{AllocError, Global};
 
 impl Parts {
     /// A datagram from this address.
+    #[inline(always)]
     pub fn datagram(
         &mut self,
         alloc: Global,
@@ -122,6 +123,7 @@ impl Parts {
     }
 
     /// A request of the client at this place.
+    #[inline(always)]
     fn requested(
         &mut self,
         alloc: Global,
