@@ -73,8 +73,8 @@ OWN = ('Vec', 'TopicFilter::read')
 FREE = {
     'gather', 'Ledger::give_out', 'Ledger::close', 'cover of what is included',
     *('Core::step of ' + kind for kind in (
-        'Down', 'PINGRESP of the broker', 'PUBACK of the broker', 'SUBACK of the broker', 'Take of nothing',
-        'UNSUBACK of the broker')),
+        'Down', 'PINGRESP of the broker', 'PUBACK of the broker', 'Replace', 'SUBACK of the broker',
+        'Take of nothing', 'UNSUBACK of the broker')),
     *('sng_frames::%s of %s' % (call, kind) for call in ('decode', 'encode') for kind in (
         'CONNACK', 'CONNECT, clean', 'DISCONNECT', 'DISCONNECT with a Duration', 'PINGREQ', 'PINGREQ with an id',
         'PINGRESP', 'PUBACK', 'PUBCOMP', 'PUBREC', 'PUBREL', 'REGACK', 'SUBACK', 'UNSUBACK', 'WILLMSGREQ',

@@ -26,17 +26,10 @@ pub struct SubscriptionEnd {
     pub note: NotePair,
 }
 
-/// What ends, and room for all that this lets out.
-#[derive(Drop)]
-struct Plan {
-    endings: Vec<SubscriptionEnd>,
-    outs: ReservedOuts,
-}
-
 /// The policy comes into force. The subscriptions end that it does not allow, each client's in order of first
 /// standing; of a filter that stands for nobody any more the broker is told where its limits leave place. Each
-/// that stands has to be allowed by the policy that was in force. An `Err` is a failed allocation, and nothing
-/// changed.
+/// that stands has to be allowed by the policy that was in force. Takes no memory where nothing ends. An `Err` is
+/// a failed allocation, and nothing changed.
 pub fn replace(
     alloc: Global,
     in_force: &mut InForce,
@@ -54,28 +47,17 @@ pub fn replace(
     ensures same_clients { OnErr result (sessions.new ≡ sessions.old) }
     ensures same_link { OnErr result (link.new ≡ link.old) }
 {
-    let Plan { endings, mut outs } = planned_all(alloc, in_force, &policy, sessions)?;
-    link.room(endings.len())?;
-    end_all(endings, policy.limits(), sessions, link, &mut outs);
+    let endings = endings(alloc, in_force, &policy, sessions)?;
+    let outs = if endings.is_empty() {
+        OutsPair::empty()
+    } else {
+        let mut outs = room_for(alloc, endings.len())?;
+        link.room(endings.len())?;
+        end_all(endings, policy.limits(), sessions, link, &mut outs);
+        outs.into_pair()
+    };
     *in_force = policy;
-    Ok(outs.into_pair())
-}
-
-/// What ends under the policy is planned, with all memory that it takes to carry it out.
-fn planned_all(
-    alloc: Global,
-    in_force: &InForce,
-    policy: &InForce,
-    sessions: &Sessions,
-) -> Result<Plan, AllocError>
-    requires { Each (λ x. AllCovered in_force.now x.id x.filters) sessions.now }
-    ensures endings { IfOk result (λ plan. plan.endings.items ≡ endings_from policy.now 0 sessions.now) }
-    ensures outs { IfOk result (λ plan. plan.outs.outs ≡ []) }
-    ensures room { IfOk result (λ plan. length plan.endings.items * 2 ≤ plan.outs.spare) }
-{
-    let endings = endings(alloc, in_force, policy, sessions)?;
-    let outs = room_for(alloc, endings.len())?;
-    Ok(Plan { endings, outs })
+    Ok(outs)
 }
 
 /// Room for what so many endings let out: two outs each.
