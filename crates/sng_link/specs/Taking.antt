@@ -134,14 +134,10 @@ MayBeOpen wanted filter None = Unit {0}
 MayBeOpen wanted filter (Some packet_id) =
     (list_any (is_open packet_id) wanted ≡ false) × (may_open wanted filter ≡ true)
 
--- the step is one of the item
-abbrev pub IsStep : List Wanted → Item → Step → Type 0
-IsStep wanted (item.Subscribe filter) step =
+-- the step is one of a SUBSCRIBE of the filter
+abbrev pub IsSubscribeStep : List Wanted → List ℕ → Step → Type 0
+IsSubscribeStep wanted filter step =
     MayBeOpen wanted filter step.packet_id × (step.packet_id ≡ None → step.former ≡ None)
-IsStep wanted (item.Publish p) step = step.former ≡ None
-IsStep wanted (item.Unsubscribe filter) step = Unit {0}
-IsStep wanted (item.Acknowledge packet_id) step = step ≡ no_step
-IsStep wanted item.Ping step = step ≡ no_step
 
 -- the next packet id is open for no filter
 abbrev pub NextIsFree : Numbering → List Wanted → Type 0

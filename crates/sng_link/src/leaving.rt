@@ -11,7 +11,7 @@ ghost use Rattle.sng_link.specs.Flights.{link_of};
 ghost use Rattle.sng_link.specs.Steps.{marked, forth_marks, Logged};
 ghost use Rattle.sng_link.specs.Taking.{id_at, flight_id, no_step, step_under, last_after};
 ghost use Rattle.sng_link.specs.Taking.{subscribe_outs, subscribe_step, owe_step, wanted_after};
-ghost use Rattle.sng_link.specs.Taking.{owing_by, IsStep, NextIsFree, LeftBy, Stands, Planned};
+ghost use Rattle.sng_link.specs.Taking.{owing_by, IsSubscribeStep, NextIsFree, LeftBy, Stands, Planned};
 
 use crate::step::Step;
 use mqtt_frames::{
@@ -147,7 +147,7 @@ fn use_up(ids: &mut PacketIds, packet_id: Option<u16>)
 /// A SUBSCRIBE of the filter leaves by this step, or is owed.
 #[inline(never)]
 fn go_subscribe(ids: &mut PacketIds, wanted: &mut Wanted, filter: &TopicFilter, step: &Step)
-    requires { IsStep wanted.old.wanted (Item.Subscribe filter.now) step.now }
+    requires { IsSubscribeStep wanted.old.wanted filter.now step.now }
     ensures ids { ids.new ≡ record ids.old { marks = forth_marks ids.old.marks step.now } }
     ensures wanted { wanted.new ≡ record wanted.old {
       wanted = wanted_after wanted.old.wanted (Item.Subscribe filter.now) step.now;
