@@ -5,7 +5,7 @@ ghost use Rattle.mqtt_frames.specs.Reading.{session_of, connect_ack_of, whole_id
 
 use crate::fields::{self, flag};
 use crate::{ConnectAck, Packet, PacketFault, first, remaining};
-use sng_text::Octets;
+use sng_text::WireBytes;
 use std::alloc::{AllocError, Global};
 
 /// How many bytes each of the three takes behind its Remaining Length.
@@ -56,10 +56,10 @@ pub fn whole_id(bytes: &[u8]) -> Result<u16, PacketFault>
 }
 
 /// The PUBACK of a packet identifier. Allocates once.
-pub fn encode_publish_ack(alloc: Global, packet_id: u16) -> Result<Octets, AllocError>
+pub fn encode_publish_ack(alloc: Global, packet_id: u16) -> Result<WireBytes, AllocError>
     ensures { IfOk result (λ o. o ≡ written (Packet.PublishAck packet_id)) }
 {
     let mut bytes = remaining::front(alloc, first::PUBLISH_ACK, SIZE)?;
     fields::push_number(&mut bytes, usize::from(packet_id))?;
-    Ok(Octets::from(bytes))
+    Ok(WireBytes::from(bytes))
 }

@@ -6,7 +6,7 @@ ghost use Rattle.mqtt_frames.specs.Reading.{Gives, at_end};
 
 use crate::read_fault::ReadFault;
 use crate::{Packet, PacketFault, first, remaining};
-use sng_text::Octets;
+use sng_text::WireBytes;
 use std::alloc::{AllocError, Global};
 
 /// A PINGREQ, where no byte stands behind its fixed header (3.12). It and the two below stand apart: few packets are
@@ -45,15 +45,15 @@ fn at_end(packet: Packet, body: &[u8]) -> Result<Packet, ReadFault>
 }
 
 /// A PINGREQ. Allocates once.
-pub fn encode_ping_request(alloc: Global) -> Result<Octets, AllocError>
+pub fn encode_ping_request(alloc: Global) -> Result<WireBytes, AllocError>
     ensures { IfOk result (λ o. o ≡ written Packet.PingRequest) }
 {
-    Ok(Octets::from(remaining::front(alloc, first::PING_REQUEST, 0)?))
+    Ok(WireBytes::from(remaining::front(alloc, first::PING_REQUEST, 0)?))
 }
 
 /// A DISCONNECT. Allocates once.
-pub fn encode_disconnect(alloc: Global) -> Result<Octets, AllocError>
+pub fn encode_disconnect(alloc: Global) -> Result<WireBytes, AllocError>
     ensures { IfOk result (λ o. o ≡ written Packet.Disconnect) }
 {
-    Ok(Octets::from(remaining::front(alloc, first::DISCONNECT, 0)?))
+    Ok(WireBytes::from(remaining::front(alloc, first::DISCONNECT, 0)?))
 }

@@ -7,7 +7,7 @@ ghost use Rattle.mqtt_frames.specs.Reading.{Gives, connect_of, connect_rest};
 use crate::fields::{self, flag};
 use crate::read_fault::ReadFault;
 use crate::{Connect, Packet, PacketFault, first, remaining};
-use sng_text::Octets;
+use sng_text::WireBytes;
 use std::alloc::{AllocError, Global};
 
 /// The protocol name and level that every CONNECT begins with (3.1.2.1 and 3.1.2.2).
@@ -86,12 +86,12 @@ pub fn encode_connect(
     client_id: &[u8],
     clean_session: bool,
     keep_alive: u16,
-) -> Result<Octets, AllocError>
+) -> Result<WireBytes, AllocError>
     requires { length client_id.now < 2 ^ 16 }
     ensures { IfOk result (λ o. o ≡ written (connect_of_parts client_id.now clean_session keep_alive)) }
 {
     let rest = PROTOCOL.len() + 5 + client_id.len();
     let mut bytes = remaining::front(alloc, first::CONNECT, rest)?;
     push_parts(&mut bytes, client_id, clean_session, keep_alive)?;
-    Ok(Octets::from(bytes))
+    Ok(WireBytes::from(bytes))
 }

@@ -57,6 +57,7 @@ pub enum Header {
 
 /// The fixed header at the front of the bytes. A fault of the first byte is reported once the Remaining
 /// Length is whole.
+#[inline(always)]
 pub fn header_at(bytes: &[u8]) -> Header
     ensures value { result ≡ header_at bytes.now }
     ensures brief { IsBrief result }

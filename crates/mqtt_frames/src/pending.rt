@@ -229,6 +229,11 @@ fn read_all(
     let mut packets = packets;
     let mut rest = bytes;
     loop {
+        if let Some(packet_id) = decode::publish_ack_at(rest) {
+            packets.push(Packet::PublishAck(packet_id))?;
+            rest = rest.split_at(4).1;
+            continue;
+        }
         match decode::decode(alloc, rest)? {
             Front::Waiting => return Ok((packets, Remainder::Rest(rest))),
             Front::Faulty(fault) => return Ok((packets, Remainder::Fault(fault))),

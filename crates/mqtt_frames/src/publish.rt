@@ -11,7 +11,7 @@ use crate::kind::PublishFlags;
 use crate::limits::MAX_PACKET;
 use crate::read_fault::ReadFault;
 use crate::{Packet, Publish, first, remaining};
-use sng_text::{Octets, TopicName};
+use sng_text::{TopicName, WireBytes};
 use std::alloc::{AllocError, Global};
 
 /// A PUBLISH by its flags, its variable header and its payload.
@@ -104,7 +104,7 @@ pub fn write_publish(
     payload: &[u8],
     retain: bool,
     packet_id: Option<u16>,
-) -> Result<Octets, AllocError>
+) -> Result<WireBytes, AllocError>
     ensures { IfOk result (λ o. o ≡ written (publish_of_parts name.now payload.now retain packet_id false)) }
 {
     let name = name.text();
@@ -121,7 +121,7 @@ pub fn write_publish(
     }
     let mut bytes = remaining::front(alloc, first, rest)?;
     push_parts(&mut bytes, name, packet_id, payload)?;
-    Ok(Octets::from(bytes))
+    Ok(WireBytes::from(bytes))
 }
 
 /// The packet with this first byte, and with so many bytes behind its fixed header that one byte says how many
@@ -134,11 +134,11 @@ fn write_brief(
     name: &[u8],
     id: &[u8],
     payload: &[u8],
-) -> Result<Octets, AllocError>
+) -> Result<WireBytes, AllocError>
     requires { rest < 128 }
     ensures { IfOk result (λ o. o
         ≡ first ∷ (remaining_length rest ++ (text_bytes name.now ++ (id.now ++ payload.now)))) }
 {
     let [high, low] = fields::number_bytes(name.len());
-    Octets::joined(alloc, &[first, rest, high, low], name, id, payload)
+    WireBytes::joined(alloc, &[first, rest, high, low], name, id, payload)
 }

@@ -11,7 +11,7 @@ use crate::{
     List, Packet, PacketFault, Request, RequestedQos, Subscribe, SubscribeAck, SubscribeCode,
     fields, first, remaining,
 };
-use sng_text::{Octets, Qos, TopicFilter};
+use sng_text::{Qos, TopicFilter, WireBytes};
 use std::alloc::{AllocError, Global};
 
 /// A SUBSCRIBE by its variable header and payload.
@@ -119,7 +119,7 @@ pub fn encode_subscribe(
     packet_id: u16,
     filter: &TopicFilter,
     qos: Qos,
-) -> Result<Octets, AllocError>
+) -> Result<WireBytes, AllocError>
     requires { 0 < packet_id }
     ensures { IfOk result (λ o. o ≡ written (subscribe_of_parts packet_id filter.now qos)) }
 {
@@ -128,7 +128,7 @@ pub fn encode_subscribe(
     fields::push_number(&mut bytes, usize::from(packet_id))?;
     fields::push_text(&mut bytes, filter)?;
     bytes.push(qos_byte(requested_qos(qos)))?;
-    Ok(Octets::from(bytes))
+    Ok(WireBytes::from(bytes))
 }
 
 fn requested_qos(qos: Qos) -> RequestedQos

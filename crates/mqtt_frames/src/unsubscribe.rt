@@ -7,7 +7,7 @@ ghost use Rattle.mqtt_frames.specs.Reading.{Gives, text_at, items_of, unsubscrib
 use crate::limits::MAX_PACKET;
 use crate::read_fault::ReadFault;
 use crate::{List, Packet, PacketFault, Unsubscribe, fields, first, remaining};
-use sng_text::{Octets, TopicFilter};
+use sng_text::{Octets, TopicFilter, WireBytes};
 use std::alloc::{AllocError, Global};
 
 /// An UNSUBSCRIBE by its variable header and payload.
@@ -83,7 +83,7 @@ pub fn encode_unsubscribe(
     alloc: Global,
     packet_id: u16,
     filter: &TopicFilter,
-) -> Result<Octets, AllocError>
+) -> Result<WireBytes, AllocError>
     requires { 0 < packet_id }
     ensures { IfOk result (λ o. o ≡ written (unsubscribe_of_parts packet_id filter.now)) }
 {
@@ -91,5 +91,5 @@ pub fn encode_unsubscribe(
     let mut bytes = remaining::front(alloc, first::UNSUBSCRIBE, 4 + filter.len())?;
     fields::push_number(&mut bytes, usize::from(packet_id))?;
     fields::push_text(&mut bytes, filter)?;
-    Ok(Octets::from(bytes))
+    Ok(WireBytes::from(bytes))
 }

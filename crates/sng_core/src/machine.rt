@@ -54,6 +54,7 @@ impl Core {
 
     /// Takes back what a step let out, once it is read: the next that lets out as many takes no memory for
     /// them. Takes no memory.
+    #[inline(always)]
     pub fn reuse(&mut self, outs: OutsPair)
         ensures { self.new ≡ self.old }
     {

@@ -25,7 +25,7 @@ use sng_history::exit_by;
 use sng_outbox::{Origin, Publication};
 use sng_policy::InForce;
 use sng_sessions::{Sessions, out_of_memory};
-use sng_text::{ClientId, Octets, Qos, TopicName};
+use sng_text::{ClientId, Qos, TopicName, WireBytes};
 use std::alloc::{AllocError, Global};
 
 impl Parts {
@@ -183,7 +183,11 @@ pub fn ask_noted(sessions: &Sessions, place: usize, judged: &Judged) -> Result<O
 }
 
 /// The PUBACK: at QoS 1, and wherever the publish is refused.
-fn reply(alloc: Global, publish: &Publish, outcome: &Outcome) -> Result<Option<Octets>, AllocError>
+fn reply(
+    alloc: Global,
+    publish: &Publish,
+    outcome: &Outcome,
+) -> Result<Option<WireBytes>, AllocError>
     ensures { (to : Address) → IfOk result (λ reply. sent_to to reply
         ≡ publish_reply to publish.now outcome.now) }
 {
@@ -194,7 +198,7 @@ fn reply(alloc: Global, publish: &Publish, outcome: &Outcome) -> Result<Option<O
 }
 
 /// The PUBACK of a publish that is allowed, at QoS 1 alone.
-fn puback(alloc: Global, publish: &Publish) -> Result<Option<Octets>, AllocError>
+fn puback(alloc: Global, publish: &Publish) -> Result<Option<WireBytes>, AllocError>
     ensures { (to : Address) → IfOk result (λ reply. sent_to to reply
         ≡ puback to publish.now publish.now.flags.qos) }
 {
@@ -207,7 +211,11 @@ fn puback(alloc: Global, publish: &Publish) -> Result<Option<Octets>, AllocError
 }
 
 /// The PUBACK with the publish's TopicId and MsgId and this code.
-pub fn puback_with(alloc: Global, publish: &Publish, code: ReturnCode) -> Result<Octets, AllocError>
+pub fn puback_with(
+    alloc: Global,
+    publish: &Publish,
+    code: ReturnCode,
+) -> Result<WireBytes, AllocError>
     ensures { IfOk result (λ datagram. datagram ≡ written (SnFrame.PublishAck
         (record { topic_id = publish.now.topic_id; msg_id = publish.now.msg_id; code = code }))) }
 {

@@ -19,7 +19,7 @@ use crate::verdict::Judged;
 use sng_book::{Address, Denial, FormDenial, Out, Outcome, OutsPair, Place, RoomDenial};
 use sng_frames::{Publish, SnFrame, write_publish_complete, write_publish_received};
 use sng_sessions::{Change, Sessions};
-use sng_text::{Octets, Qos};
+use sng_text::{Qos, WireBytes};
 use std::alloc::{AllocError, Global};
 
 impl Parts {
@@ -116,7 +116,7 @@ fn noted(
 }
 
 /// The PUBREC where the publish is allowed, and the PUBACK where it is refused.
-fn reply(alloc: Global, publish: &Publish, outcome: &Outcome) -> Result<Octets, AllocError>
+fn reply(alloc: Global, publish: &Publish, outcome: &Outcome) -> Result<WireBytes, AllocError>
     ensures { (to : Address) → IfOk result (λ datagram. Out.Send to datagram ∷ []
         ≡ once_reply to publish.now outcome.now) }
 {
@@ -134,7 +134,7 @@ fn pubrec(alloc: Global, to: Address, msg_id: u16) -> Result<Out, AllocError>
 }
 
 /// Its datagram.
-fn received(alloc: Global, msg_id: u16) -> Result<Octets, AllocError>
+fn received(alloc: Global, msg_id: u16) -> Result<WireBytes, AllocError>
     ensures { IfOk result (λ datagram. datagram ≡ written (SnFrame.PublishReceived msg_id)) }
 {
     write_publish_received(alloc, msg_id)

@@ -8,7 +8,7 @@ ghost use Rattle.sng_crew.specs.Turning.{got_call, opening_call};
 ghost use Rattle.sng_crew.specs.Devices.{IsShort, IsTaken, written_call};
 
 use crate::limits::MAX_READ;
-use sng_text::Octets;
+use sng_text::{Octets, WireBytes};
 
 /// A call of a connection, with what came of it.
 #[derive(Debug, Drop)]
@@ -94,7 +94,7 @@ pub struct Terms {
     /// How many tries may fail, one after another.
     pub tries: u32,
     /// What a new connection begins with: the bytes of a CONNECT.
-    pub greeting: Octets,
+    pub greeting: WireBytes,
 }
 
 /// Connections to the broker, one after another.

@@ -16,7 +16,7 @@ use crate::gate::Gate;
 use crate::source::{Beats, Datagrams, Got, Policies};
 use crate::volume::Volume;
 use sng_book::{Address, Event};
-use sng_text::Octets;
+use sng_text::WireBytes;
 use std::sync::{Mutex, Wait};
 
 /// A source of events, and a way to send what comes of them.
@@ -53,7 +53,7 @@ pub trait Source: Drop {
         ensures line { line self.new ≡ line self.old };
 
     /// Passes a datagram on. It may be lost.
-    fn send(&mut self, to: Address, datagram: &Octets)
+    fn send(&mut self, to: Address, datagram: &WireBytes)
         ensures given { Moves tells gave self.old self.new [] }
         ensures passed { Moves told passed self.old self.new ((to, datagram.now) ∷ []) }
         ensures failures { failures self.new ≡ failures self.old }
@@ -97,7 +97,7 @@ impl<D: Datagrams> Source for Devices<D> {
         }
     }
 
-    fn send(&mut self, to: Address, datagram: &Octets) {
+    fn send(&mut self, to: Address, datagram: &WireBytes) {
         let _sent = self.datagrams.send(to, datagram);
     }
 
@@ -142,7 +142,7 @@ impl<B: Beats, D: Datagrams, V: Filing<Volume>> Source for Clock<B, D, V> {
         }
     }
 
-    fn send(&mut self, to: Address, datagram: &Octets) {
+    fn send(&mut self, to: Address, datagram: &WireBytes) {
         let _sent = self.sender.send(to, datagram);
     }
 
@@ -181,7 +181,7 @@ impl<P: Policies> Source for Loader<P> {
         }
     }
 
-    fn send(&mut self, _to: Address, _datagram: &Octets) {}
+    fn send(&mut self, _to: Address, _datagram: &WireBytes) {}
 
     fn tend<R: Wait, G: Gate>(&mut self, _rt: &R, _desk: &Mutex<Desk>, _gate: &G, _by: u16) {}
 }

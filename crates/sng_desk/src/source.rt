@@ -11,7 +11,7 @@ ghost use Rattle.sng_desk.specs.Working.{given_by};
 
 use sng_book::Address;
 use sng_grants::Policy;
-use sng_text::Octets;
+use sng_text::WireBytes;
 
 /// What a source answers.
 #[derive(Debug, Drop)]
@@ -47,7 +47,7 @@ pub trait Datagrams: Drop {
     ghost has_ended: { Self → Bool };
 
     /// The next datagram, with the address from which it came.
-    fn receive(&mut self) -> Got<(Address, Octets)>
+    fn receive(&mut self) -> Got<(Address, WireBytes)>
         ensures given { Moves tells gave self.old self.new (given_by result) }
         ensures passed { Moves tells passed self.old self.new [] }
         ensures failures { failures self.old ≤ failures self.new }
@@ -57,7 +57,7 @@ pub trait Datagrams: Drop {
 
     /// Passes a datagram on. The answer is that the call did not fail: where it did, the datagram is lost,
     /// and counted.
-    fn send(&mut self, to: Address, datagram: &Octets) -> bool
+    fn send(&mut self, to: Address, datagram: &WireBytes) -> bool
         ensures given { Moves tells gave self.old self.new [] }
         ensures passed { Moves tells passed self.old self.new ((to, datagram.now) ∷ []) }
         ensures unsent { (result ≡ false) ↔ (unsent self.old < unsent self.new) }

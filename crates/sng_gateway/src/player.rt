@@ -74,6 +74,7 @@ impl Player {
 
     /// Does what a line says, and leaves what is to be printed of it in `text`. It is `Failed` where the row
     /// with the last number of 64 bits is made and one more would follow, as in the functions below.
+    #[inline(always)]
     fn take(&mut self, line: Line) -> Result<(), Obstacle>
         ensures ok { OnOk result (Comes (standing self.old) line self.new.text.items (standing self.new)) }
         ensures full { result ≡ Err Obstacle.Failed → self.new.rows ≡ u64.MAX }
@@ -139,6 +140,7 @@ impl Player {
     }
 
     /// Takes one step, and adds its row to `text`.
+    #[inline(always)]
     fn step(&mut self, event: Event) -> Result<(), Obstacle>
         ensures ok { OnOk result (Adds (standing self.old) (Step event ∷ [])
             self.old.text.items self.new.text.items (standing self.new)) }

@@ -21,7 +21,7 @@ use sng_book::{Decision, Out, Outs, OutsPair, Who};
 use sng_history::exit;
 use sng_outbox::{Item, Outbox, PacketIds, Publication};
 use sng_policy::InForce;
-use sng_text::{Octets, Qos, TopicFilter};
+use sng_text::{Qos, TopicFilter, WireBytes};
 use sng_wanted::Wanted;
 use std::alloc::{AllocError, Global};
 
@@ -360,7 +360,7 @@ pub fn packet_of(
     alloc: Global,
     publication: &Publication,
     packet_id: Option<u16>,
-) -> Result<Octets, AllocError>
+) -> Result<WireBytes, AllocError>
     ensures { IfOk result (λ packet. packet ≡ packet_of publication.now packet_id) }
 {
     let payload = publication.payload.as_slice();

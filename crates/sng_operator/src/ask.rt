@@ -12,7 +12,7 @@ use sng_history::PING_MS;
 use sng_questions::report::{Report, report_of};
 use sng_scope::{PolicyFault, read_policy};
 use sng_script::sender::address_of;
-use sng_text::{ClientId, MAX_CLIENT_ID, Octets, TextFault};
+use sng_text::{ClientId, MAX_CLIENT_ID, TextFault, WireBytes};
 use std::alloc::{AllocError, Global};
 use std::fmt;
 use std::fmt::{Display, Formatter, Write};
@@ -77,7 +77,7 @@ pub struct Ask {
     pub listen: SocketAddr,
     pub broker: SocketAddr,
     /// The first packet of a connection to the broker.
-    pub greeting: Octets,
+    pub greeting: WireBytes,
     pub workers: u16,
     pub tries: u32,
     pub flood: FloodLimits,
@@ -292,7 +292,7 @@ pub fn socket_address(address: Address) -> SocketAddr {
 }
 
 /// The CONNECT of the gateway under this id: a clean session.
-fn greeting_in(alloc: Global, given: Given<'_>) -> Result<Octets, Fault<'_>>
+fn greeting_in(alloc: Global, given: Given<'_>) -> Result<WireBytes, Fault<'_>>
     ensures { IfOk result (λ greeting. greeting ≡ gateway_connect given.entry.word.now) }
 {
     let id = given.word.as_bytes();

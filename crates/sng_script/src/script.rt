@@ -10,7 +10,7 @@ use crate::number::number_of;
 use crate::sender::{address_of, parted};
 use sng_book::Event;
 use sng_scope::{PolicyFault, read_policy};
-use sng_text::Octets;
+use sng_text::WireBytes;
 use std::alloc::Global;
 
 /// What a line of a script says.
@@ -23,7 +23,7 @@ pub enum Line {
     /// A policy that is refused, by the first fault of its text.
     Refused(PolicyFault),
     /// A piece of the broker's bytes.
-    Broker(Octets),
+    Broker(WireBytes),
 }
 
 /// Why a line is not read.
@@ -68,6 +68,7 @@ fn word_line(word: &[u8]) -> Result<Line, LineFault>
 }
 
 /// What a line says with this word before its first space, and this behind it.
+#[inline(always)]
 fn words_line(alloc: Global, word: &[u8], rest: &[u8]) -> Result<Line, LineFault>
     ensures ok { IfOk result (λ said. words_line word.now rest.now ≡ Some said) }
     ensures err { IfErr result (λ fault. fault ≡ fault_of (words_line word.now rest.now)) }

@@ -11,7 +11,7 @@ use sng_bounds::paths::{Paths, REST_MS};
 use sng_desk::{Datagrams, Got};
 use sng_frames::{MAX_DATAGRAM, write_disconnect};
 use sng_operator::ask::socket_address;
-use sng_text::Octets;
+use sng_text::WireBytes;
 use std::alloc::{AllocError, Global};
 use std::io::{Error, ErrorKind};
 use std::net::{Ipv4Addr, Net, SocketAddr, SocketAddrV4, UdpSocket};
@@ -41,7 +41,7 @@ pub struct Socket<'a, R: Net + Clock + Wait> {
     port: u16,
     buffer: Vec<u8>,
     /// A DISCONNECT, as it answers who has no session.
-    disconnect: Octets,
+    disconnect: WireBytes,
     paths: Paths,
     /// Until when some address may rest, in ms; 0 where none does.
     rest_end: u64,
@@ -86,7 +86,7 @@ impl<'a, R: Net + Clock + Wait> Socket<'a, R> {
     }
 
     /// Where there is no memory for a datagram, it is lost. One that the gateway sent is passed over.
-    fn take(&mut self, from: SocketAddrV4, count: usize) -> Got<(Address, Octets)>
+    fn take(&mut self, from: SocketAddrV4, count: usize) -> Got<(Address, WireBytes)>
         ensures failures { self.old.failures ≤ self.new.failures }
         ensures failed { (result ≡ failed_answer) ↔ (self.old.failures < self.new.failures) }
         ensures goes_on { result ≢ ended_answer }
@@ -99,7 +99,7 @@ impl<'a, R: Net + Clock + Wait> Socket<'a, R> {
         let Some(bytes) = self.buffer.as_slice().get(..count) else {
             return Got::Nothing;
         };
-        match Octets::of(self.alloc, bytes) {
+        match WireBytes::of(self.alloc, bytes) {
             Ok(datagram) => Got::Came((address_of(from), datagram)),
             Err(AllocError) => {
                 self.lost = self.lost.saturating_add(1);
@@ -122,7 +122,7 @@ impl<'a, R: Net + Clock + Wait> Socket<'a, R> {
 
     /// The datagram that lies in the socket, or else one for which it waits, with which a burst begins: others may
     /// lie there by the time at which it was acted on.
-    fn listen(&mut self) -> Got<(Address, Octets)>
+    fn listen(&mut self) -> Got<(Address, WireBytes)>
         ensures failures { self.old.failures ≤ self.new.failures }
         ensures failed { (result ≡ failed_answer) ↔ (self.old.failures < self.new.failures) }
         ensures goes_on { result ≢ ended_answer }
@@ -148,7 +148,7 @@ impl<'a, R: Net + Clock + Wait> Socket<'a, R> {
     }
 
     /// Waits for a datagram. The worker at the broker is woken before, where something may wait for it.
-    fn wait(&mut self) -> Got<(Address, Octets)>
+    fn wait(&mut self) -> Got<(Address, WireBytes)>
         ensures failures { self.old.failures ≤ self.new.failures }
         ensures failed { (result ≡ failed_answer) ↔ (self.old.failures < self.new.failures) }
         ensures goes_on { result ≢ ended_answer }
@@ -166,7 +166,7 @@ impl<'a, R: Net + Clock + Wait> Socket<'a, R> {
     }
 
     /// A wait that ended, a call to be made again, or a failure.
-    fn missed(&mut self, error: &Error) -> Got<(Address, Octets)>
+    fn missed(&mut self, error: &Error) -> Got<(Address, WireBytes)>
         ensures failures { self.old.failures ≤ self.new.failures }
         ensures failed { (result ≡ failed_answer) ↔ (self.old.failures < self.new.failures) }
         ensures goes_on { result ≢ ended_answer }
@@ -273,7 +273,7 @@ impl<'a, R: Net + Clock + Wait> Datagrams for Socket<'a, R> {
 
     /// The worker has the token with what comes, before the next one reads. What belongs to a flood is passed
     /// over, and makes no event.
-    fn receive(&mut self) -> Got<(Address, Octets)> {
+    fn receive(&mut self) -> Got<(Address, WireBytes)> {
         let hub = self.hub;
         hub.listening.take(self.rt, self.by);
         if hub.stops() {
@@ -296,7 +296,7 @@ impl<'a, R: Net + Clock + Wait> Datagrams for Socket<'a, R> {
         got
     }
 
-    fn send(&mut self, to: Address, datagram: &Octets) -> bool {
+    fn send(&mut self, to: Address, datagram: &WireBytes) -> bool {
         if !self.may_leave(to, datagram.as_slice()) {
             return self.lose();
         }

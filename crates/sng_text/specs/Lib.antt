@@ -4,6 +4,7 @@ pub mod Common
 pub mod Texts
 pub mod Matching
 pub mod Kept
+pub mod WireBytes
 pub mod ClientIds
 pub mod Ipv4
 pub mod Laws

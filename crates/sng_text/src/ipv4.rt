@@ -4,6 +4,7 @@ ghost use Rattle.std.specs.Prelude.{◌≡◌, ◌==◌, [], ◌∷◌, MatchOpt
 ghost use Rattle.sng_text.specs.Ipv4.{is_digit, is_leading, octet_of, parts_of, ipv4_of};
 
 /// The address that the text is, where it is one.
+#[inline(always)]
 pub fn read_ipv4(text: &[u8]) -> Option<[u8; 4]>
     ensures { result ≡ ipv4_of text.now }
 {
@@ -37,6 +38,7 @@ fn first_point(text: &[u8]) -> Option<usize>
 }
 
 /// The number from 0 to 255 that the digits write.
+#[inline(always)]
 fn octet_from(digits: &[u8]) -> Option<u8>
     ensures { result ≡ octet_of digits.now }
 {

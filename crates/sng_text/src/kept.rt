@@ -1,6 +1,6 @@
 //! Where the bytes of a name, a filter, a client id or a message lie. Most are short, and those lie in line: to
 //! make, copy or drop one takes no memory.
-ghost use Rattle.std.specs.Prelude.{◌≡◌, ◌<◌, ◌≤◌, ◌+◌, ◌++◌, ℕ, All, IfOk, length, take, slice_index, vec_len};
+ghost use Rattle.std.specs.Prelude.{◌≡◌, ◌<◌, ◌≤◌, All, IfOk, length, vec_len};
 ghost use Rattle.sng_text.specs.Kept.{front_of};
 
 use std::alloc::{AllocError, Global};
@@ -59,34 +59,6 @@ impl Text {
         long(bytes)
     }
 
-    /// A text of the bytes of the four slices, one after the other. Only memory can fail, and only where they
-    /// are many.
-    #[inline(always)]
-    pub fn joined(
-        alloc: Global,
-        first: &[u8],
-        second: &[u8],
-        third: &[u8],
-        fourth: &[u8],
-    ) -> Result<Text, AllocError>
-        ensures { IfOk result (λ t. t ≡ first.now ++ second.now ++ third.now ++ fourth.now) }
-    {
-        let front = first.len().saturating_add(second.len());
-        let count = front
-            .saturating_add(third.len())
-            .saturating_add(fourth.len());
-        if count > MOST_SHORT {
-            return joined_long(alloc, count, first, second, third, fourth);
-        }
-        let mut bytes = [0; MOST_SHORT];
-        let at = put(&mut bytes, 0, first);
-        let at = put(&mut bytes, at, second);
-        let at = put(&mut bytes, at, third);
-        let count = put(&mut bytes, at, fourth);
-        let kept = Kept::Short(count as u8, bytes);
-        Ok(Text { kept })
-    }
-
     /// The bytes, where they lie.
     pub fn as_slice(&self) -> &[u8]
         ensures { result.now ≡ self.now }
@@ -130,40 +102,6 @@ fn short(text: &[u8]) -> Text
     bytes[..text.len()].copy_from_slice(text);
     let kept = Kept::Short(text.len() as u8, bytes);
     Text { kept }
-}
-
-/// Puts the piece at this place, behind which all is 0, and returns the place behind it.
-#[inline(always)]
-fn put(bytes: &mut [u8; MOST_SHORT], at: usize, piece: &[u8]) -> usize
-    requires fits { at + length piece.now ≤ MOST_SHORT }
-    requires behind { (k : ℕ) → at ≤ k → slice_index bytes.old k ≡ 0 }
-    ensures place { result ≡ at + length piece.now }
-    ensures put { take (at + length piece.now) bytes.new ≡ take at bytes.old ++ piece.now }
-    ensures behind { (k : ℕ) → at + length piece.now ≤ k → slice_index bytes.new k ≡ 0 }
-{
-    let end = at + piece.len();
-    bytes[at..end].copy_from_slice(piece);
-    end
-}
-
-/// The bytes of the four slices, of so many bytes, in memory of their own.
-#[inline(always)]
-fn joined_long(
-    alloc: Global,
-    count: usize,
-    first: &[u8],
-    second: &[u8],
-    third: &[u8],
-    fourth: &[u8],
-) -> Result<Text, AllocError>
-    ensures { IfOk result (λ t. t ≡ first.now ++ second.now ++ third.now ++ fourth.now) }
-{
-    let mut bytes = Vec::with_capacity(alloc, count)?;
-    bytes.extend_from_slice(first)?;
-    bytes.extend_from_slice(second)?;
-    bytes.extend_from_slice(third)?;
-    bytes.extend_from_slice(fourth)?;
-    Ok(Text::of_vec(bytes))
 }
 
 /// These bytes in their memory, which are too many to lie in line.

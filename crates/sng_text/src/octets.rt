@@ -1,5 +1,5 @@
 //! Bytes as one value.
-ghost use Rattle.std.specs.Prelude.{◌≡◌, ◌==◌, ◌++◌, IfOk, length};
+ghost use Rattle.std.specs.Prelude.{◌≡◌, ◌==◌, IfOk, length};
 
 use crate::kept::Text;
 use std::alloc::{AllocError, Global};
@@ -35,21 +35,6 @@ impl Octets {
         ensures { IfOk result (λ o. o ≡ bytes.now) }
     {
         let bytes = Text::of(alloc, bytes)?;
-        Ok(Octets { bytes })
-    }
-
-    /// The bytes of the four slices, one after the other. Only memory can fail, and only where they are many.
-    #[inline(always)]
-    pub fn joined(
-        alloc: Global,
-        first: &[u8],
-        second: &[u8],
-        third: &[u8],
-        fourth: &[u8],
-    ) -> Result<Octets, AllocError>
-        ensures { IfOk result (λ o. o ≡ first.now ++ second.now ++ third.now ++ fourth.now) }
-    {
-        let bytes = Text::joined(alloc, first, second, third, fourth)?;
         Ok(Octets { bytes })
     }
 

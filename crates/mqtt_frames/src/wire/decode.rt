@@ -1,14 +1,15 @@
 //! Reading the packet at the front of a stream of bytes (MQTT 3.1.1, sections 2 and 3).
-ghost use Rattle.std.specs.Prelude.{◌≡◌, ◌≤◌, ◌<◌, length, IfOk};
-ghost use Rattle.mqtt_frames.specs.Fronts.{decode, IsWithin};
+ghost use Rattle.std.specs.Prelude.{◌≡◌, ◌≤◌, ◌<◌, length, IfOk, IfSome};
+ghost use Rattle.mqtt_frames.specs.Fronts.{decode, publish_ack_at, IsWithin};
 ghost use Rattle.mqtt_frames.specs.Reading.{Gives, body_of};
+ghost use Rattle.mqtt_frames.specs.declared.wire.decode.Front.TheVariants as fronts;
 
 use crate::header::{self, Header};
 use crate::kind::Kind;
 use crate::limits::MAX_PACKET;
 use crate::read_fault::ReadFault;
 use crate::{
-    Packet, PacketFault, acknowledgements, bare, connect, publish, subscribe, unsubscribe,
+    Packet, PacketFault, acknowledgements, bare, connect, first, publish, subscribe, unsubscribe,
 };
 use std::alloc::{AllocError, Global};
 
@@ -23,7 +24,29 @@ pub enum Front {
     Whole(Packet, usize),
 }
 
+/// The packet identifier of the PUBACK at the front of the bytes, where it is spelled in four bytes, the fewest
+/// that can spell it (3.4). At QoS 1 most of what a broker sends is such a PUBACK, so it is read where it lies.
+#[inline(always)]
+pub(crate) fn publish_ack_at(bytes: &[u8]) -> Option<u16>
+    ensures value { result ≡ publish_ack_at bytes.now }
+    ensures whole { IfSome result (λ packet_id. decode bytes.now ≡ fronts.Whole (Packet.PublishAck packet_id) 4) }
+    ensures within { IfSome result (λ packet_id. 4 ≤ length bytes.now) }
+{
+    match bytes {
+        [first::PUBLISH_ACK, 2, high, low, ..] => {
+            let packet_id = u16::from(*high) * 256 + u16::from(*low);
+            if packet_id == 0 {
+                None
+            } else {
+                Some(packet_id)
+            }
+        }
+        _ => None,
+    }
+}
+
 /// The packet or the fault at the front of the bytes. The only error is that an allocation failed.
+#[inline(always)]
 pub fn decode(alloc: Global, bytes: &[u8]) -> Result<Front, AllocError>
     ensures value { IfOk result (λ front. front ≡ decode bytes.now) }
     ensures within { IfOk result (λ front. IsWithin (length bytes.now) front) }

@@ -4,15 +4,15 @@ ghost use Rattle.std.specs.Prelude.{◌≡◌, ◌++◌, ◌∷◌, [], not, tak
 use crate::memory::Calls;
 use sng_book::Address;
 use sng_desk::{Datagrams, Got};
-use sng_text::Octets;
+use sng_text::WireBytes;
 use std::alloc::Global;
 
 /// Gives some datagrams, and keeps what is passed to it.
 #[derive(Debug, Drop)]
 pub struct MemoryDatagrams {
-    datagrams: Vec<(Address, Octets)>,
+    datagrams: Vec<(Address, WireBytes)>,
     next: usize,
-    kept: Vec<(Address, Octets)>,
+    kept: Vec<(Address, WireBytes)>,
     calls: Calls,
     failures: u64,
     unsent: u64,
@@ -22,7 +22,11 @@ pub struct MemoryDatagrams {
 
 impl MemoryDatagrams {
     /// It gives these datagrams, and has ended then.
-    pub fn new(alloc: Global, datagrams: Vec<(Address, Octets)>, calls: Calls) -> MemoryDatagrams {
+    pub fn new(
+        alloc: Global,
+        datagrams: Vec<(Address, WireBytes)>,
+        calls: Calls,
+    ) -> MemoryDatagrams {
         MemoryDatagrams {
             datagrams,
             next: 0,
@@ -36,7 +40,7 @@ impl MemoryDatagrams {
     }
 
     /// What was passed to it, in order, that which was lost among it.
-    pub fn kept(&self) -> &[(Address, Octets)] {
+    pub fn kept(&self) -> &[(Address, WireBytes)] {
         self.kept.as_slice()
     }
 
@@ -46,7 +50,7 @@ impl MemoryDatagrams {
     }
 
     /// Keeps a datagram that was passed to it, as long as there is memory.
-    fn keep(&mut self, to: Address, datagram: &Octets)
+    fn keep(&mut self, to: Address, datagram: &WireBytes)
         ensures told { not self.new.has_lost ≡ true → not self.old.has_lost ≡ true }
         ensures kept { not self.new.has_lost ≡ true → self.new.kept.items ≡ self.old.kept.items
             ++ (to, datagram.now) ∷ [] }
@@ -83,7 +87,7 @@ impl Datagrams for MemoryDatagrams {
 
     ghost has_ended = { λ m. m.is_over };
 
-    fn receive(&mut self) -> Got<(Address, Octets)> {
+    fn receive(&mut self) -> Got<(Address, WireBytes)> {
         if self.calls.fails() && self.failures < u64::MAX {
             self.failures += 1;
             return Got::Failed;
@@ -105,7 +109,7 @@ impl Datagrams for MemoryDatagrams {
         Got::Came((from, copy))
     }
 
-    fn send(&mut self, to: Address, datagram: &Octets) -> bool {
+    fn send(&mut self, to: Address, datagram: &WireBytes) -> bool {
         self.keep(to, datagram);
         if self.calls.fails() && self.unsent < u64::MAX {
             self.unsent += 1;

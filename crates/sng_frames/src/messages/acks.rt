@@ -10,7 +10,7 @@ ghost use Rattle.sng_frames.specs.declared.frame.SnFrame.TheVariants as frames;
 
 use crate::wire::framing;
 use crate::{Flags, FrameFault, MessageType, ReturnCode};
-use sng_text::Octets;
+use sng_text::WireBytes;
 use std::alloc::{AllocError, Global};
 
 /// A REGACK or a PUBACK.
@@ -73,21 +73,21 @@ pub(crate) fn decode_subscribe_ack(part: &[u8]) -> Result<SubscribeAck, FrameFau
 }
 
 /// The datagram of a CONNACK. Allocates once.
-pub fn write_connect_ack(alloc: Global, code: ReturnCode) -> Result<Octets, AllocError>
+pub fn write_connect_ack(alloc: Global, code: ReturnCode) -> Result<WireBytes, AllocError>
     ensures { IfOk result (λ o. o ≡ written (frames.ConnectAck code)) }
 {
     framing::frame(alloc, MessageType::ConnectAck, &[code.0], &[])
 }
 
 /// The datagram of a REGACK. Allocates once.
-pub fn write_register_ack(alloc: Global, ack: TopicAck) -> Result<Octets, AllocError>
+pub fn write_register_ack(alloc: Global, ack: TopicAck) -> Result<WireBytes, AllocError>
     ensures { IfOk result (λ o. o ≡ written (frames.RegisterAck ack)) }
 {
     write_topic_ack(alloc, MessageType::RegisterAck, ack)
 }
 
 /// The datagram of a PUBACK. Allocates once.
-pub fn write_publish_ack(alloc: Global, ack: TopicAck) -> Result<Octets, AllocError>
+pub fn write_publish_ack(alloc: Global, ack: TopicAck) -> Result<WireBytes, AllocError>
     ensures { IfOk result (λ o. o ≡ written (frames.PublishAck ack)) }
 {
     write_topic_ack(alloc, MessageType::PublishAck, ack)
@@ -98,7 +98,7 @@ pub(crate) fn write_topic_ack(
     alloc: Global,
     kind: MessageType,
     ack: TopicAck,
-) -> Result<Octets, AllocError>
+) -> Result<WireBytes, AllocError>
     ensures written { IfOk result (λ o. o ≡ framed (octet_of kind) (topic_ack_part ack)) }
     ensures in_range { IsInRange (frames.RegisterAck ack) }
 {
@@ -109,7 +109,7 @@ pub(crate) fn write_topic_ack(
 }
 
 /// The datagram of a SUBACK. Allocates once.
-pub fn write_subscribe_ack(alloc: Global, ack: SubscribeAck) -> Result<Octets, AllocError>
+pub fn write_subscribe_ack(alloc: Global, ack: SubscribeAck) -> Result<WireBytes, AllocError>
     ensures written { IfOk result (λ o. o ≡ written (frames.SubscribeAck ack)) }
     ensures in_range { IsInRange (frames.SubscribeAck ack) }
 {
@@ -127,7 +127,7 @@ pub fn write_subscribe_ack(alloc: Global, ack: SubscribeAck) -> Result<Octets, A
 }
 
 /// The datagram of a PUBCOMP. Allocates once.
-pub fn write_publish_complete(alloc: Global, msg_id: u16) -> Result<Octets, AllocError>
+pub fn write_publish_complete(alloc: Global, msg_id: u16) -> Result<WireBytes, AllocError>
     ensures { IfOk result (λ o. o ≡ written (frames.PublishComplete msg_id)) }
 {
     framing::frame(
@@ -139,7 +139,7 @@ pub fn write_publish_complete(alloc: Global, msg_id: u16) -> Result<Octets, Allo
 }
 
 /// The datagram of a PUBREC. Allocates once.
-pub fn write_publish_received(alloc: Global, msg_id: u16) -> Result<Octets, AllocError>
+pub fn write_publish_received(alloc: Global, msg_id: u16) -> Result<WireBytes, AllocError>
     ensures { IfOk result (λ o. o ≡ written (frames.PublishReceived msg_id)) }
 {
     framing::frame(
@@ -151,7 +151,7 @@ pub fn write_publish_received(alloc: Global, msg_id: u16) -> Result<Octets, Allo
 }
 
 /// The datagram of a PUBREL. Allocates once.
-pub fn write_publish_release(alloc: Global, msg_id: u16) -> Result<Octets, AllocError>
+pub fn write_publish_release(alloc: Global, msg_id: u16) -> Result<WireBytes, AllocError>
     ensures { IfOk result (λ o. o ≡ written (frames.PublishRelease msg_id)) }
 {
     framing::frame(
@@ -163,7 +163,7 @@ pub fn write_publish_release(alloc: Global, msg_id: u16) -> Result<Octets, Alloc
 }
 
 /// The datagram of an UNSUBACK. Allocates once.
-pub fn write_unsubscribe_ack(alloc: Global, msg_id: u16) -> Result<Octets, AllocError>
+pub fn write_unsubscribe_ack(alloc: Global, msg_id: u16) -> Result<WireBytes, AllocError>
     ensures { IfOk result (λ o. o ≡ written (frames.UnsubscribeAck msg_id)) }
 {
     framing::frame(

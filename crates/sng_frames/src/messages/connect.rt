@@ -10,7 +10,7 @@ ghost use Rattle.sng_frames.specs.declared.limits.TheConstants.{MAX_DATAGRAM};
 use crate::messages::part;
 use crate::wire::framing;
 use crate::{Flags, FrameFault, MessageType};
-use sng_text::{ClientId, Octets};
+use sng_text::{ClientId, WireBytes};
 use std::alloc::{AllocError, Global};
 
 /// A CONNECT.
@@ -49,7 +49,7 @@ pub(crate) fn size(connect: &Connect) -> usize
 }
 
 /// The datagram of a CONNECT.
-pub(crate) fn write(alloc: Global, connect: &Connect) -> Result<Octets, AllocError>
+pub(crate) fn write(alloc: Global, connect: &Connect) -> Result<WireBytes, AllocError>
     requires { length (connect_part connect.now) + 4 ≤ MAX_DATAGRAM }
     ensures written { IfOk result (λ o. o ≡ written (frames.Connect connect.now)) }
     ensures in_range { IsInRange (frames.Connect connect.now) }

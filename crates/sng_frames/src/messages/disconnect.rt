@@ -8,7 +8,7 @@ ghost use Rattle.sng_frames.specs.declared.frame.SnFrame.TheVariants as frames;
 
 use crate::wire::framing;
 use crate::{FrameFault, MessageType};
-use sng_text::Octets;
+use sng_text::WireBytes;
 use std::alloc::{AllocError, Global};
 
 /// Nothing, or a Duration.
@@ -33,7 +33,7 @@ pub(crate) fn size(duration: &Option<u16>) -> usize
 }
 
 /// The datagram of a DISCONNECT, with its Duration in seconds where it has one. Allocates once.
-pub fn write_disconnect(alloc: Global, duration: Option<u16>) -> Result<Octets, AllocError>
+pub fn write_disconnect(alloc: Global, duration: Option<u16>) -> Result<WireBytes, AllocError>
     ensures written { IfOk result (λ o. o ≡ written (frames.Disconnect duration)) }
     ensures in_range { IsInRange (frames.Disconnect duration) }
 {

@@ -10,7 +10,7 @@ ghost use Rattle.sng_frames.specs.declared.limits.TheConstants.{MAX_DATAGRAM};
 use crate::messages::part;
 use crate::wire::framing;
 use crate::{FrameFault, MessageType};
-use sng_text::{ClientId, Octets};
+use sng_text::{ClientId, WireBytes};
 use std::alloc::{AllocError, Global};
 
 /// Nothing, or a ClientId.
@@ -35,7 +35,7 @@ pub(crate) fn size(client_id: &Option<ClientId>) -> usize
 }
 
 /// The datagram of a PINGREQ.
-pub(crate) fn write(alloc: Global, client_id: &Option<ClientId>) -> Result<Octets, AllocError>
+pub(crate) fn write(alloc: Global, client_id: &Option<ClientId>) -> Result<WireBytes, AllocError>
     requires { length (ping_part client_id.now) + 4 ≤ MAX_DATAGRAM }
     ensures written { IfOk result (λ o. o ≡ written (frames.PingRequest client_id.now)) }
     ensures in_range { IsInRange (frames.PingRequest client_id.now) }
@@ -47,7 +47,7 @@ pub(crate) fn write(alloc: Global, client_id: &Option<ClientId>) -> Result<Octet
 }
 
 /// The datagram of a PINGRESP. Allocates once.
-pub fn write_ping_response(alloc: Global) -> Result<Octets, AllocError>
+pub fn write_ping_response(alloc: Global) -> Result<WireBytes, AllocError>
     ensures { IfOk result (λ o. o ≡ written frames.PingResponse) }
 {
     framing::frame(alloc, MessageType::PingResponse, &[], &[])

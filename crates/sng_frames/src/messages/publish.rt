@@ -9,7 +9,7 @@ ghost use Rattle.sng_frames.specs.declared.limits.TheConstants.{MAX_PAYLOAD};
 use crate::messages::part;
 use crate::wire::framing;
 use crate::{Flags, FrameFault, MessageType};
-use sng_text::Octets;
+use sng_text::{Octets, WireBytes};
 use std::alloc::{AllocError, Global};
 
 /// A PUBLISH.
@@ -62,7 +62,7 @@ pub fn write_publish(
     topic_id: u16,
     msg_id: u16,
     payload: &[u8],
-) -> Result<Octets, AllocError>
+) -> Result<WireBytes, AllocError>
     requires { length payload.now ≤ MAX_PAYLOAD }
     ensures { IfOk result (λ o. o ≡ written (frames.Publish
         (record { flags = flags; topic_id = topic_id; msg_id = msg_id; payload = payload.now }))) }

@@ -9,7 +9,7 @@ ghost use Rattle.sng_frames.specs.declared.limits.TheConstants.{MAX_REGISTERED_N
 use crate::messages::part;
 use crate::wire::framing;
 use crate::{FrameFault, MessageType};
-use sng_text::Octets;
+use sng_text::{Octets, WireBytes};
 use std::alloc::{AllocError, Global};
 
 /// A REGISTER.
@@ -50,7 +50,7 @@ pub fn write_register(
     topic_id: u16,
     msg_id: u16,
     name: &[u8],
-) -> Result<Octets, AllocError>
+) -> Result<WireBytes, AllocError>
     requires { length name.now ≤ MAX_REGISTERED_NAME }
     ensures { IfOk result (λ o. o ≡ written (frames.Register
         (record { topic_id = topic_id; msg_id = msg_id; name = name.now }))) }

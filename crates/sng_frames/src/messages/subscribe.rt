@@ -9,7 +9,7 @@ ghost use Rattle.sng_frames.specs.declared.limits.TheConstants.{MAX_DATAGRAM};
 use crate::messages::part;
 use crate::wire::framing;
 use crate::{Flags, FrameFault, MessageType, TopicIdType};
-use sng_text::Octets;
+use sng_text::{Octets, WireBytes};
 use std::alloc::{AllocError, Global};
 
 /// A SUBSCRIBE or an UNSUBSCRIBE.
@@ -66,7 +66,7 @@ pub(crate) fn write(
     alloc: Global,
     kind: MessageType,
     request: &TopicRequest,
-) -> Result<Octets, AllocError>
+) -> Result<WireBytes, AllocError>
     requires { length (topic_request_part request.now) + 4 ≤ MAX_DATAGRAM }
     ensures written { IfOk result (λ o. o ≡ framed (octet_of kind) (topic_request_part request.now)) }
     ensures in_range { request.now.msg_id < 2 ^ 16 }

@@ -11,7 +11,7 @@ ghost use Rattle.sng_frames.specs.declared.limits.TheConstants.{MAX_DATAGRAM};
 use crate::messages::part;
 use crate::wire::framing;
 use crate::{Flags, FrameFault, MessageType, ReturnCode};
-use sng_text::Octets;
+use sng_text::{Octets, WireBytes};
 use std::alloc::{AllocError, Global};
 
 /// The will topic of a WILLTOPIC or a WILLTOPICUPD.
@@ -52,7 +52,7 @@ pub(crate) fn write_topic(
     alloc: Global,
     kind: MessageType,
     will: &Option<WillTopic>,
-) -> Result<Octets, AllocError>
+) -> Result<WireBytes, AllocError>
     requires { length (will_topic_part will.now) + 4 ≤ MAX_DATAGRAM }
     ensures { IfOk result (λ o. o ≡ framed (octet_of kind) (will_topic_part will.now)) }
 {
@@ -63,28 +63,28 @@ pub(crate) fn write_topic(
 }
 
 /// The datagram of a WILLTOPICREQ. Allocates once.
-pub fn write_will_topic_request(alloc: Global) -> Result<Octets, AllocError>
+pub fn write_will_topic_request(alloc: Global) -> Result<WireBytes, AllocError>
     ensures { IfOk result (λ o. o ≡ written frames.WillTopicRequest) }
 {
     framing::frame(alloc, MessageType::WillTopicRequest, &[], &[])
 }
 
 /// The datagram of a WILLMSGREQ. Allocates once.
-pub fn write_will_message_request(alloc: Global) -> Result<Octets, AllocError>
+pub fn write_will_message_request(alloc: Global) -> Result<WireBytes, AllocError>
     ensures { IfOk result (λ o. o ≡ written frames.WillMessageRequest) }
 {
     framing::frame(alloc, MessageType::WillMessageRequest, &[], &[])
 }
 
 /// The datagram of a WILLTOPICRESP. Allocates once.
-pub fn write_will_topic_response(alloc: Global, code: ReturnCode) -> Result<Octets, AllocError>
+pub fn write_will_topic_response(alloc: Global, code: ReturnCode) -> Result<WireBytes, AllocError>
     ensures { IfOk result (λ o. o ≡ written (frames.WillTopicResponse code)) }
 {
     framing::frame(alloc, MessageType::WillTopicResponse, &[code.0], &[])
 }
 
 /// The datagram of a WILLMSGRESP. Allocates once.
-pub fn write_will_message_response(alloc: Global, code: ReturnCode) -> Result<Octets, AllocError>
+pub fn write_will_message_response(alloc: Global, code: ReturnCode) -> Result<WireBytes, AllocError>
     ensures { IfOk result (λ o. o ≡ written (frames.WillMessageResponse code)) }
 {
     framing::frame(alloc, MessageType::WillMessageResponse, &[code.0], &[])

@@ -30,6 +30,7 @@ const ENCAPSULATED: u8 = 0xfe;
 /// does not fit its type. `NotSupported`: it is an ADVERTISE, SEARCHGW or GWINFO, or its MsgType is that of
 /// forwarder encapsulation, whatever its Length. `Memory`: it is a frame with text or data, and the
 /// allocation of their copy failed.
+#[inline(always)]
 pub fn decode(alloc: Global, datagram: &[u8]) -> Result<SnFrame, FrameFault>
     ensures ok { IfOk result (λ f. frame_of datagram.now ≡ Ok f) }
     ensures malformed { (result ≡ Err Malformed) ↔ (frame_of datagram.now ≡ Err Malformed) }
@@ -44,6 +45,7 @@ pub fn decode(alloc: Global, datagram: &[u8]) -> Result<SnFrame, FrameFault>
 }
 
 /// A datagram of that size, from its Length on.
+#[inline(always)]
 fn decode_octets(alloc: Global, size: usize, octets: &[u8]) -> Result<SnFrame, FrameFault>
     ensures { Decodes result (octets_read size octets.now) }
 {
@@ -77,6 +79,7 @@ fn decode_message(
 }
 
 /// A MsgType and its variable part, behind a Length that states so many octets.
+#[inline(always)]
 fn decode_counted(
     alloc: Global,
     stated: usize,

@@ -8,7 +8,7 @@ ghost use Rattle.sng_frames.specs.declared.limits.TheConstants.{MAX_DATAGRAM};
 use crate::messages::{acks, connect, disconnect, ping, publish, register, subscribe, will};
 use crate::wire::framing;
 use crate::{FrameFault, MAX_DATAGRAM, SnFrame};
-use sng_text::Octets;
+use sng_text::WireBytes;
 use std::alloc::{AllocError, Global};
 
 /// The datagram that a frame is sent as, with the shortest Length. Allocates once.
@@ -16,7 +16,7 @@ use std::alloc::{AllocError, Global};
 /// `TooLong`: it has more than `MAX_DATAGRAM` octets. `Malformed`: no bytes spell the frame, which is a
 /// SUBSCRIBE or an UNSUBSCRIBE whose topic does not have the two octets that its TopicIdType asks for.
 /// `Memory`: the allocation failed.
-pub fn encode(alloc: Global, frame: &SnFrame) -> Result<Octets, FrameFault>
+pub fn encode(alloc: Global, frame: &SnFrame) -> Result<WireBytes, FrameFault>
     ensures written { IfOk result (λ o. o ≡ written frame.now) }
     ensures spelled { IfOk result (λ o. Spells frame.now o) }
     ensures fits { IfOk result (λ o. length o ≤ MAX_DATAGRAM) }
@@ -92,7 +92,7 @@ fn topic_fits(frame: &SnFrame) -> bool
 }
 
 /// The datagram of a frame that is not too long, by the writer of its message.
-fn write(alloc: Global, frame: &SnFrame) -> Result<Octets, AllocError>
+fn write(alloc: Global, frame: &SnFrame) -> Result<WireBytes, AllocError>
     requires { length (part_of frame.now) + 4 ≤ MAX_DATAGRAM }
     ensures answer { IfOk result (λ o. o ≡ written frame.now) }
     ensures in_range { IsInRange frame.now }

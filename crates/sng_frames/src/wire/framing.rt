@@ -7,7 +7,7 @@ ghost use Rattle.sng_frames.specs.Writing.{framed};
 ghost use Rattle.sng_frames.specs.declared.limits.TheConstants.{MAX_DATAGRAM};
 
 use crate::{MAX_SHORT_LENGTH, MessageType};
-use sng_text::Octets;
+use sng_text::WireBytes;
 use std::alloc::{AllocError, Global};
 
 /// The octets of a Length that has three of them, and of a MsgType.
@@ -21,16 +21,16 @@ pub(crate) fn frame(
     kind: MessageType,
     head: &[u8],
     tail: &[u8],
-) -> Result<Octets, AllocError>
+) -> Result<WireBytes, AllocError>
     requires { 4 + length head.now + length tail.now ≤ MAX_DATAGRAM }
     ensures { IfOk result (λ o. o ≡ framed (octet_of kind) (head.now ++ tail.now)) }
 {
     let size = head.len() + tail.len();
     if size + 2 <= MAX_SHORT_LENGTH {
-        return Octets::joined(alloc, &[(size + 2) as u8, kind.octet()], head, tail, &[]);
+        return WireBytes::joined(alloc, &[(size + 2) as u8, kind.octet()], head, tail, &[]);
     }
     let [high, low] = octets((size + 4) as u16);
-    Octets::joined(alloc, &[0x01, high, low, kind.octet()], head, tail, &[])
+    WireBytes::joined(alloc, &[0x01, high, low, kind.octet()], head, tail, &[])
 }
 
 /// The two octets of a number, the high one first.
