@@ -25,7 +25,9 @@ HOST = '127.0.0.1'
 ROUNDS = 5
 SECONDS = 60
 IDLE_SECONDS = 20
-MINUS, ONE, TRIPS, BURST, OUTS = '100000', '30000', '10000', '10000', '100000'
+MINUS, ONE, TRIPS, BURST = '100000', '30000', '10000', '10000'
+# How many datagrams leave for the devices in a run: with 20,000 it was over in a tenth of a second
+OUTS = 100_000
 POLICY = {'version': 1, 'sources': {HOST: [['ab', ['pub']]]},
           'clients': dict({'s1': [['t/1', ['pub']]]}, **{'d%03d' % k: [['ab', ['sub']]] for k in range(100)})}
 
@@ -176,7 +178,7 @@ def main():
             partial(by_gateway, tool, sng, policy, workers, ['burst', BURST]) for workers in (1, 2, 4)],
             'arrived'))
         for devices in (1, 10, 100):
-            words = ['fan', str(int(OUTS) // devices), str(devices)]
+            words = ['fan', str(OUTS // devices), str(devices)]
             scale, came = middles([partial(by_plain, tool, 'cast', words),
                                    partial(by_gateway, tool, sng, policy, 2, words)])
             show('to %d devices: plain' % devices, scale)
