@@ -24,9 +24,10 @@ from publishes import HERE
 
 RUNS = 5
 SECONDS = 600
-PUBLISHES = 200_000
-MESSAGES = 2000
-NIGHTS = 20
+# A run of 200,000 publishes is over in 90 ms
+PUBLISHES = 1_000_000
+MESSAGES = 10_000
+NIGHTS = 100
 # The same in short, since callgrind is some fifty times slower
 FEW_PUBLISHES, FEW_MESSAGES, FEW_NIGHTS = 20_000, 100, 2
 

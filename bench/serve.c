@@ -1,7 +1,9 @@
 /* What bench/serve.py measures with: a broker that counts, devices that send, and plain programs for scale.
  *
  *   serve relay LISTEN_PORT BROKER_PORT               the relay: each datagram is a PUBLISH, written at once
- *   serve cast LISTEN_PORT BROKER_PORT                messages alone: each is sent to all who subscribed
+ *   serve cast LISTEN_PORT BROKER_PORT [BESIDE KEPT]  messages alone: each is sent to all who subscribed, with a
+ *                                                     thread beside where BESIDE is 1, and KEPT bytes are kept of
+ *                                                     each datagram
  *   serve minus BROKER_PORT COUNT                     PUBLISHes at QoS -1, 100 on the way at most: a second
  *   serve burst BROKER_PORT COUNT                     PUBLISHes at QoS -1 without a pause: how many arrive
  *   serve one BROKER_PORT COUNT WINDOW                PUBLISHes at QoS 1 of one session: a second, p50, p99
@@ -125,28 +127,52 @@ static void relay(int listen_port, int broker_port) {
     }
 }
 
+/* Who subscribed. */
+static struct sockaddr_in all[DEVICES];
+static atomic_int count_of_all;
+
+/* Takes a datagram: lets in who connects and subscribes. */
+static void let_in(int udp) {
+    unsigned char in[2048];
+    struct sockaddr_in from;
+    socklen_t size = sizeof from;
+    ssize_t n = recvfrom(udp, in, sizeof in, 0, (void *)&from, &size);
+    if (n > 6 && in[1] == 0x04) sendto(udp, "\3\5\0", 3, 0, (void *)&from, size);
+    if (n > 6 && in[1] == 0x12 && count_of_all < DEVICES) {
+        all[count_of_all] = from;
+        count_of_all++;
+        sendto(udp, "\x08\x13\0\0\0\0\1\0", 8, 0, (void *)&from, size);
+    }
+}
+
+static void *let_in_for_ever(void *udp) {
+    for (;;) let_in((int)(long)udp);
+    return udp;
+}
+
+/* Sends a datagram to all, of which it keeps so many bytes for each. */
+static void send_to_all(int udp, const unsigned char *out, size_t size, size_t kept_bytes) {
+    int count = count_of_all;
+    unsigned char *kept = kept_bytes ? calloc(count, kept_bytes) : NULL;
+    for (int i = 0; kept && i < count; i++) memcpy(kept + i * kept_bytes, out, size);
+    for (int i = 0; i < count; i++)
+        sendto(udp, kept ? kept + i * kept_bytes : out, size, 0, (void *)&all[i], sizeof all[i]);
+}
+
 /* Lets in who connects and subscribes, and sends each message of the broker, of 127 bytes at most behind its
- * length, to each of them: the same calls as those of a gateway, and no decision. */
-static void cast(int listen_port, int broker_port) {
+ * length, to each of them: the same calls as those of a gateway, and no decision. With a thread beside, that one
+ * waits for devices, as a gateway's workers do; else one thread waits for both. */
+static void cast(int listen_port, int broker_port, int has_beside, size_t kept_bytes) {
     int tcp = upstream(broker_port), udp = served(listen_port);
-    struct sockaddr_in all[DEVICES];
-    struct pollfd both[2] = {{udp, POLLIN, 0}, {tcp, POLLIN, 0}};
+    struct pollfd both[2] = {{tcp, POLLIN, 0}, {udp, POLLIN, 0}};
     unsigned char in[4096], out[2048] = {0, 0x0c, 0x02};
     size_t held = 0;
-    int count = 0;
+    pthread_t beside;
+    if (has_beside) pthread_create(&beside, NULL, let_in_for_ever, (void *)(long)udp);
     for (;;) {
-        if (poll(both, 2, -1) < 0) stop("poll");
-        if (both[0].revents) {
-            struct sockaddr_in from;
-            socklen_t size = sizeof from;
-            ssize_t n = recvfrom(udp, out + 8, sizeof out - 8, 0, (void *)&from, &size);
-            if (n > 6 && out[9] == 0x04) sendto(udp, "\3\5\0", 3, 0, (void *)&from, size);
-            if (n > 6 && out[9] == 0x12 && count < DEVICES) {
-                all[count++] = from;
-                sendto(udp, "\x08\x13\0\0\0\0\1\0", 8, 0, (void *)&from, size);
-            }
-        }
-        if (!both[1].revents) continue;
+        if (poll(both, has_beside ? 1 : 2, -1) < 0) stop("poll");
+        if (!has_beside && both[1].revents) let_in(udp);
+        if (!both[0].revents) continue;
         ssize_t n = read(tcp, in + held, sizeof in - held);
         if (n <= 0) return;
         held += n;
@@ -158,7 +184,7 @@ static void cast(int listen_port, int broker_port) {
                 memcpy(out + 3, in + at + 4, 2);
                 out[5] = out[6] = 0;
                 memcpy(out + 7, in + at + 2 + name, data);
-                for (int i = 0; i < count; i++) sendto(udp, out, 7 + data, 0, (void *)&all[i], sizeof all[i]);
+                send_to_all(udp, out, 7 + data, kept_bytes);
             }
             at += 2 + in[at + 1];
         }
@@ -354,7 +380,8 @@ static void fan(long count, int devices) {
 int main(int n, char **words) {
     signal(SIGPIPE, SIG_IGN);
     if (n >= 4 && !strcmp(words[1], "relay")) relay(atoi(words[2]), atoi(words[3]));
-    if (n >= 4 && !strcmp(words[1], "cast")) cast(atoi(words[2]), atoi(words[3]));
+    if (n >= 4 && !strcmp(words[1], "cast"))
+        cast(atoi(words[2]), atoi(words[3]), n >= 6 && atoi(words[4]), n >= 6 ? atol(words[5]) : 0);
     if (n < 4) return 2;
     pthread_t broker;
     pthread_create(&broker, NULL, answer, (void *)(long)atoi(words[2]));

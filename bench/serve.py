@@ -3,7 +3,8 @@
 
 Measures `sng serve` on loopback (SNG is the build that `rt run` leaves in crates/sng/out/sng, where none is
 given), beside plain programs that decide and keep nothing (serve.c, built on the spot by `cc -O2`): a relay of
-UDP to TCP, and one that sends each message of the broker to each device. Prints how many PUBLISHes a second
+UDP to TCP, and one that sends each message of the broker to each device, in one thread, with a thread beside it
+that waits for devices, and keeping what it sends as well. Prints how many PUBLISHes a second
 reach the broker at QoS -1 and at QoS 1, with 1, 2 and 4 workers, and at QoS 1 also by a policy that lets 16,000
 be in flight where 128 may by default; how many of a burst of 10,000 reach it; how many messages of the broker a
 second reach 1, 10 and 100 devices; the median and the 99th percentile of a round trip in microseconds; the
@@ -28,6 +29,8 @@ IDLE_SECONDS = 20
 MINUS, ONE, TRIPS, BURST = '100000', '30000', '10000', '10000'
 # How many datagrams leave for the devices in a run: with 20,000 it was over in a tenth of a second
 OUTS = 100_000
+# What the book takes for a datagram of these, which a plain program keeps as well: a note and the datagram
+KEPT = '240'
 POLICY = {'version': 1, 'sources': {HOST: [['ab', ['pub']]]},
           'clients': dict({'s1': [['t/1', ['pub']]]}, **{'d%03d' % k: [['ab', ['sub']]] for k in range(100)})}
 
@@ -55,14 +58,14 @@ def processor_seconds(pid):
         return sum(map(int, stat.read().rsplit(')', 1)[1].split()[11:13])) / os.sysconf('SC_CLK_TCK')
 
 
-def by_plain(tool, program, words):
+def by_plain(tool, program, words, *more):
     port, udp = free_port(socket.SOCK_STREAM), free_port(socket.SOCK_DGRAM)
     driver = subprocess.Popen([tool, words[0], str(port), *words[1:]], stdin=subprocess.PIPE,
                               stdout=subprocess.PIPE, text=True)
     relay = None
     try:
         for _ in range(100):
-            relay = subprocess.Popen([tool, program, str(udp), str(port)], stderr=subprocess.DEVNULL)
+            relay = subprocess.Popen([tool, program, str(udp), str(port), *more], stderr=subprocess.DEVNULL)
             try:
                 relay.wait(0.1)
             except subprocess.TimeoutExpired:
@@ -179,9 +182,12 @@ def main():
             'arrived'))
         for devices in (1, 10, 100):
             words = ['fan', str(OUTS // devices), str(devices)]
-            scale, came = middles([partial(by_plain, tool, 'cast', words),
-                                   partial(by_gateway, tool, sng, policy, 2, words)])
+            scale, beside, keeping, came = middles([
+                partial(by_plain, tool, 'cast', words), partial(by_plain, tool, 'cast', words, '1', '0'),
+                partial(by_plain, tool, 'cast', words, '1', KEPT), partial(by_gateway, tool, sng, policy, 2, words)])
             show('to %d devices: plain' % devices, scale)
+            show('to %d devices: plain, a thread beside' % devices, beside, scale)
+            show('to %d devices: plain, and kept' % devices, keeping, scale)
             show('to %d devices: sng, workers 2' % devices, came, scale)
         for workers in (1, 8):
             print('idle, workers %d: %.4f of a processor' % (workers, idle(tool, sng, policy, workers)))
