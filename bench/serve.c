@@ -128,8 +128,8 @@ static void relay(int listen_port, int broker_port) {
 }
 
 /* Who subscribed. */
-static struct sockaddr_in all[DEVICES];
-static atomic_int count_of_all;
+static struct sockaddr_in subscribers[DEVICES];
+static atomic_int subscribed;
 
 /* Takes a datagram: lets in who connects and subscribes. */
 static void let_in(int udp) {
@@ -138,9 +138,9 @@ static void let_in(int udp) {
     socklen_t size = sizeof from;
     ssize_t n = recvfrom(udp, in, sizeof in, 0, (void *)&from, &size);
     if (n > 6 && in[1] == 0x04) sendto(udp, "\3\5\0", 3, 0, (void *)&from, size);
-    if (n > 6 && in[1] == 0x12 && count_of_all < DEVICES) {
-        all[count_of_all] = from;
-        count_of_all++;
+    if (n > 6 && in[1] == 0x12 && subscribed < DEVICES) {
+        subscribers[subscribed] = from;
+        subscribed++;
         sendto(udp, "\x08\x13\0\0\0\0\1\0", 8, 0, (void *)&from, size);
     }
 }
@@ -152,11 +152,11 @@ static void *let_in_for_ever(void *udp) {
 
 /* Sends a datagram to all, of which it keeps so many bytes for each. */
 static void send_to_all(int udp, const unsigned char *out, size_t size, size_t kept_bytes) {
-    int count = count_of_all;
+    int count = subscribed;
     unsigned char *kept = kept_bytes ? calloc(count, kept_bytes) : NULL;
     for (int i = 0; kept && i < count; i++) memcpy(kept + i * kept_bytes, out, size);
     for (int i = 0; i < count; i++)
-        sendto(udp, kept ? kept + i * kept_bytes : out, size, 0, (void *)&all[i], sizeof all[i]);
+        sendto(udp, kept ? kept + i * kept_bytes : out, size, 0, (void *)&subscribers[i], sizeof subscribers[i]);
 }
 
 /* Lets in who connects and subscribes, and sends each message of the broker, of 127 bytes at most behind its
@@ -168,7 +168,7 @@ static void cast(int listen_port, int broker_port, int has_beside, size_t kept_b
     unsigned char in[4096], out[2048] = {0, 0x0c, 0x02};
     size_t held = 0;
     pthread_t beside;
-    if (has_beside) pthread_create(&beside, NULL, let_in_for_ever, (void *)(long)udp);
+    if (has_beside && pthread_create(&beside, NULL, let_in_for_ever, (void *)(long)udp)) stop("thread");
     for (;;) {
         if (poll(both, has_beside ? 1 : 2, -1) < 0) stop("poll");
         if (!has_beside && both[1].revents) let_in(udp);
