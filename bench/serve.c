@@ -1,9 +1,10 @@
 /* What bench/serve.py measures with: a broker that counts, devices that send, and plain programs for scale.
  *
  *   serve relay LISTEN_PORT BROKER_PORT               the relay: each datagram is a PUBLISH, written at once
- *   serve cast LISTEN_PORT BROKER_PORT [BESIDE KEPT]  messages alone: each is sent to all who subscribed, with a
- *                                                     thread beside where BESIDE is 1, and KEPT bytes are kept of
- *                                                     each datagram
+ *   serve cast LISTEN_PORT BROKER_PORT [BESIDE KEPT SHARED]
+ *                                                     messages alone: each is sent to all who subscribed, with a
+ *                                                     thread beside where BESIDE is 1, KEPT bytes are kept of each
+ *                                                     datagram, and where SHARED is 1 another thread sends half
  *   serve minus BROKER_PORT COUNT                     PUBLISHes at QoS -1, 100 on the way at most: a second
  *   serve burst BROKER_PORT COUNT                     PUBLISHes at QoS -1 without a pause: how many arrive
  *   serve one BROKER_PORT COUNT WINDOW                PUBLISHes at QoS 1 of one session: a second, p50, p99
@@ -150,24 +151,76 @@ static void *let_in_for_ever(void *udp) {
     return udp;
 }
 
+/* What is sent to all: one datagram, or one kept for each. */
+struct load {
+    int udp;
+    const unsigned char *bytes;
+    size_t size, step;
+    int count;
+};
+
+/* Sends to every subscriber from this one on, or to every other one. */
+static void send_from(const struct load *l, int first, int every) {
+    for (int i = first; i < l->count; i += every)
+        sendto(l->udp, l->bytes + i * l->step, l->size, 0, (void *)&subscribers[i], sizeof subscribers[i]);
+}
+
+/* What the other sender is given, where there is one: it is there from its start until it is sent. */
+static pthread_mutex_t lock = PTHREAD_MUTEX_INITIALIZER;
+static pthread_cond_t given = PTHREAD_COND_INITIALIZER, sent_all = PTHREAD_COND_INITIALIZER;
+static const struct load *shared;
+
+static void *send_shared_for_ever(void *none) {
+    for (;;) {
+        pthread_mutex_lock(&lock);
+        while (!shared) pthread_cond_wait(&given, &lock);
+        pthread_mutex_unlock(&lock);
+        send_from(shared, 1, 2);
+        pthread_mutex_lock(&lock);
+        shared = NULL;
+        pthread_cond_signal(&sent_all);
+        pthread_mutex_unlock(&lock);
+    }
+    return none;
+}
+
+static void send_by_two(const struct load *l) {
+    pthread_mutex_lock(&lock);
+    shared = l;
+    pthread_cond_signal(&given);
+    pthread_mutex_unlock(&lock);
+    send_from(l, 0, 2);
+    pthread_mutex_lock(&lock);
+    while (shared) pthread_cond_wait(&sent_all, &lock);
+    pthread_mutex_unlock(&lock);
+}
+
 /* Sends a datagram to all, of which it keeps so many bytes for each. */
-static void send_to_all(int udp, const unsigned char *out, size_t size, size_t kept_bytes) {
-    int count = subscribed;
-    unsigned char *kept = kept_bytes ? calloc(count, kept_bytes) : NULL;
-    for (int i = 0; kept && i < count; i++) memcpy(kept + i * kept_bytes, out, size);
-    for (int i = 0; i < count; i++)
-        sendto(udp, kept ? kept + i * kept_bytes : out, size, 0, (void *)&subscribers[i], sizeof subscribers[i]);
+static void send_to_all(int udp, const unsigned char *out, size_t size, size_t kept_bytes, int is_shared) {
+    struct load l = {udp, out, size, 0, subscribed};
+    if (kept_bytes) {
+        unsigned char *kept = calloc(l.count, kept_bytes);
+        if (!kept) stop("memory");
+        for (int i = 0; i < l.count; i++) memcpy(kept + i * kept_bytes, out, size);
+        l.bytes = kept;
+        l.step = kept_bytes;
+    }
+    if (is_shared)
+        send_by_two(&l);
+    else
+        send_from(&l, 0, 1);
 }
 
 /* Lets in who connects and subscribes, and sends each message of the broker, of 127 bytes at most behind its
  * length, to each of them: the same calls as those of a gateway, and no decision. With a thread beside, that one
  * waits for devices, as a gateway's workers do; else one thread waits for both. */
-static void cast(int listen_port, int broker_port, int has_beside, size_t kept_bytes) {
+static void cast(int listen_port, int broker_port, int has_beside, size_t kept_bytes, int is_shared) {
     int tcp = upstream(broker_port), udp = served(listen_port);
     struct pollfd both[2] = {{tcp, POLLIN, 0}, {udp, POLLIN, 0}};
     unsigned char in[4096], out[2048] = {0, 0x0c, 0x02};
     size_t held = 0;
-    pthread_t beside;
+    pthread_t beside, other;
+    if (is_shared && pthread_create(&other, NULL, send_shared_for_ever, NULL)) stop("thread");
     if (has_beside && pthread_create(&beside, NULL, let_in_for_ever, (void *)(long)udp)) stop("thread");
     for (;;) {
         if (poll(both, has_beside ? 1 : 2, -1) < 0) stop("poll");
@@ -184,7 +237,7 @@ static void cast(int listen_port, int broker_port, int has_beside, size_t kept_b
                 memcpy(out + 3, in + at + 4, 2);
                 out[5] = out[6] = 0;
                 memcpy(out + 7, in + at + 2 + name, data);
-                send_to_all(udp, out, 7 + data, kept_bytes);
+                send_to_all(udp, out, 7 + data, kept_bytes, is_shared);
             }
             at += 2 + in[at + 1];
         }
@@ -381,7 +434,8 @@ int main(int n, char **words) {
     signal(SIGPIPE, SIG_IGN);
     if (n >= 4 && !strcmp(words[1], "relay")) relay(atoi(words[2]), atoi(words[3]));
     if (n >= 4 && !strcmp(words[1], "cast"))
-        cast(atoi(words[2]), atoi(words[3]), n >= 6 && atoi(words[4]), n >= 6 ? atol(words[5]) : 0);
+        cast(atoi(words[2]), atoi(words[3]), n >= 6 && atoi(words[4]), n >= 6 ? atol(words[5]) : 0,
+             n >= 7 && atoi(words[6]));
     if (n < 4) return 2;
     pthread_t broker;
     pthread_create(&broker, NULL, answer, (void *)(long)atoi(words[2]));

@@ -4,7 +4,7 @@
 Measures `sng serve` on loopback (SNG is the build that `rt run` leaves in crates/sng/out/sng, where none is
 given), beside plain programs that decide nothing (serve.c, built on the spot by `cc -O2`): a relay of UDP to
 TCP, and one that sends each message of the broker to each device, in one thread, with a thread beside it that
-waits for devices, and with that thread and keeping what it sends. Prints how many PUBLISHes a second reach the
+waits for devices, with that thread and keeping what it sends, and with all that where another thread sends half. Prints how many PUBLISHes a second reach the
 broker at QoS -1 and at QoS 1, with 1, 2 and 4 workers, and at QoS 1 also by a policy that lets 16,000 be in
 flight where 128 may by default; how many of a burst of 10,000 reach it; how many messages of the broker a second
 reach 1, 10 and 100 devices; the median and the 99th percentile of a round trip in microseconds; the memory of a
@@ -182,12 +182,15 @@ def main():
             'arrived'))
         for devices in (1, 10, 100):
             words = ['fan', str(OUTS // devices), str(devices)]
-            scale, beside, keeping, came = middles([
+            scale, beside, keeping, shared, came = middles([
                 partial(by_plain, tool, 'cast', words), partial(by_plain, tool, 'cast', words, '1', '0'),
-                partial(by_plain, tool, 'cast', words, '1', KEPT), partial(by_gateway, tool, sng, policy, 2, words)])
+                partial(by_plain, tool, 'cast', words, '1', KEPT),
+                partial(by_plain, tool, 'cast', words, '1', KEPT, '1'),
+                partial(by_gateway, tool, sng, policy, 2, words)])
             show('to %d devices: plain' % devices, scale)
             show('to %d devices: plain, a thread beside' % devices, beside, scale)
             show('to %d devices: plain, and kept' % devices, keeping, scale)
+            show('to %d devices: plain, two senders' % devices, shared, scale)
             show('to %d devices: sng, workers 2' % devices, came, scale)
         for workers in (1, 8):
             print('idle, workers %d: %.4f of a processor' % (workers, idle(tool, sng, policy, workers)))

@@ -93,7 +93,7 @@ def workers_that_give_up(room):
 
 
 def refused_threads(room):
-    """Whichever of the nine threads is refused, the gateway ends at once, says so, and closes nothing."""
+    """Whichever of the ten threads is refused, the gateway ends at once, says so, and closes nothing."""
     if os.geteuid() != 0:
         raise Skipped('only root can run the program as a user that has no other process')
     os.chmod(room.folder, 0o711)
@@ -123,8 +123,8 @@ def refused_threads(room):
     wanted(status == 0, 'a gateway that has all its threads')
     # the two threads that write to standard output and standard error come first, when nothing is begun
     begun = (1, ['not closed'], ['sng: a thread was refused: a limit of processes, or memory'])
-    # then come the one that prints rows, the one that runs the workers, and five workers
-    wanted(told == [(3, ['out of memory'], [])] * 2 + [begun] * 7, 'each refusal told, and not %r' % told)
+    # then come the one that prints rows, the courier, the one that runs the workers, and five workers
+    wanted(told == [(3, ['out of memory'], [])] * 2 + [begun] * 8, 'each refusal told, and not %r' % told)
 
 
 def a_disk_with_room_again(room):

@@ -1,11 +1,15 @@
-"""Cases of tests/live.py: the order of what one device sends and is sent, however many workers there are.
+"""Cases of tests/live.py: the order of what one device sends and is sent, however many threads there are.
 SNG_LIVE_PAIRS in the environment is how many pairs of publishes each case sends: 2,000 without it."""
 import os
 
+from live_ends import Client
 from live_parts import Failure, until, wanted
 
 PAIRS = int(os.environ.get('SNG_LIVE_PAIRS', '2000'))
 CONNECTS = max(100, PAIRS // 40)
+# So many datagrams of a row that two threads send them, and so many messages as the sockets of the devices keep
+DEVICES, MESSAGES = 80, 100
+FIELD = {'version': 1, 'clients': {'d%02d' % number: [['ab', ['sub']]] for number in range(DEVICES)}}
 # As many publishes may wait as may be let wait: on a busy machine the broker takes them late, and this is about
 # their order.
 LAMP = {'version': 4, 'limits': {'waiting': 65_000}, 'clients': {'s1': [['t/#', ['pub', 'sub']]]}}
@@ -74,6 +78,32 @@ def a_subscribe_right_behind_a_connect(room):
     gateway.close(verbose=False)
 
 
+def of_the_field(room, gateway, name):
+    device = room.device(gateway)
+    device.connect(name)
+    device.send(0x12, b'\0\0\1ab')
+    wanted(device.receive(0x13)[5:] == b'\0', 'a SUBACK that accepts')
+    return device
+
+
+def messages_to_many_devices(room):
+    broker = room.test_broker()
+    gateway = room.gateway(broker.port, policy=FIELD, verbose=False)
+    devices = [of_the_field(room, gateway, name) for name in FIELD['clients']]
+    publisher = Client(broker.port, 'pub')
+    for number in range(MESSAGES):
+        publisher.publish('ab', 'message %d' % number)
+    for at, device in enumerate(devices):
+        for number in range(MESSAGES):
+            heard = device.receive(0x0c)[5:]
+            wanted(heard == b'message %d' % number, 'message %d to device %d, and not %r' % (number, at, heard))
+    for device in devices:
+        device.silent(0.01)
+        device.socket.close()
+    publisher.kill()
+    gateway.close(verbose=False)
+
+
 BESIDE_A_BROKER = (pairs_in_order_by_two_workers, pairs_in_order_by_four_workers,
                    pairs_in_order_by_eight_workers)
-ALONE = (a_subscribe_right_behind_a_connect,)
+ALONE = (a_subscribe_right_behind_a_connect, messages_to_many_devices)

@@ -1,6 +1,6 @@
 //! What goes out by the worker at the connection: bytes for the broker until a write fails, and datagrams.
 ghost use Rattle.std.specs.Prelude.{◌≡◌, ◌++◌, ◌∷◌, [], not};
-ghost use Rattle.sng_desk.specs.Acts.{Moves, sends_in, sends_of};
+ghost use Rattle.sng_desk.specs.Acts.{Moves, sends_of};
 ghost use Rattle.sng_crew.specs.Wires.{wires_in, wires_of};
 ghost use Rattle.sng_crew.specs.Turning.{Settled, Writes};
 
@@ -85,31 +85,11 @@ pub fn settle_bytes<U: Upstream>(up: &mut U, bytes: &[u8], stays: bool) -> Close
     Close::Breaks
 }
 
-fn send_out<D: Datagrams>(sink: &mut D, out: &Out)
-    ensures { Moves D.tells D.passed sink.old sink.new (sends_in (out.now ∷ [])) }
-{
-    match out {
-        Out::Send(to, bytes) => {
-            let _sent = sink.send(*to, bytes);
-        }
-        Out::Note(_) => {}
-        Out::Wire(_) => {}
-    }
-}
-
-fn send_outs<D: Datagrams>(sink: &mut D, outs: &[Out])
-    ensures { Moves D.tells D.passed sink.old sink.new (sends_in outs.now) }
-{
-    for out in outs {
-        send_out(sink, out);
-    }
-}
-
 /// Passes on what some receipts let out for clients.
 pub fn send_all<D: Datagrams>(sink: &mut D, receipts: &[Receipt])
     ensures { Moves D.tells D.passed sink.old sink.new (sends_of receipts.now) }
 {
     for receipt in receipts {
-        send_outs(sink, receipt.outs());
+        sink.send_outs(receipt.outs());
     }
 }

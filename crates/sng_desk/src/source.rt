@@ -6,10 +6,10 @@ ghost use Rattle.sng_book.specs.declared.address.Address.{Address};
 ghost use Rattle.sng_grants.specs.declared.policy.Policy.{Policy as policy};
 ghost use Rattle.sng_desk.specs.declared.source.Got.TheVariants.{Ended as ended_answer};
 ghost use Rattle.sng_desk.specs.declared.source.Got.TheVariants.{Failed as failed_answer};
-ghost use Rattle.sng_desk.specs.Acts.{Moves};
+ghost use Rattle.sng_desk.specs.Acts.{Moves, sends_in};
 ghost use Rattle.sng_desk.specs.Working.{given_by};
 
-use sng_book::Address;
+use sng_book::{Address, Out};
 use sng_grants::Policy;
 use sng_text::WireBytes;
 
@@ -61,6 +61,16 @@ pub trait Datagrams: Drop {
         ensures given { Moves tells gave self.old self.new [] }
         ensures passed { Moves tells passed self.old self.new ((to, datagram.now) ∷ []) }
         ensures unsent { (result ≡ false) ↔ (unsent self.old < unsent self.new) }
+        ensures counted { unsent self.old ≤ unsent self.new }
+        ensures failures { failures self.new ≡ failures self.old }
+        ensures ends { has_ended self.new ≡ has_ended self.old };
+
+    /// Passes on the datagrams among some outs. Those to one address leave in their order, and each that is lost
+    /// is counted.
+    fn send_outs(&mut self, outs: &[Out])
+        ensures given { Moves tells gave self.old self.new [] }
+        ensures passed { Moves tells passed self.old self.new (sends_in outs.now) }
+        ensures unsent { unsent self.old ≤ unsent self.new }
         ensures failures { failures self.new ≡ failures self.old }
         ensures ends { has_ended self.new ≡ has_ended self.old };
 

@@ -1,6 +1,7 @@
 //! What all workers of a running gateway share beside the desk: whether they are to stop, and how those that
 //! wait are woken.
 
+use crate::courier::Courier;
 use crate::handover::Handover;
 use crate::shelf::Shelf;
 use sng_bounds::answers::Answers;
@@ -74,6 +75,8 @@ pub struct Hub {
     pub refused_policies: Count,
     /// The rows that were cut out of the book, for whoever prints rows.
     pub shelf: Shelf,
+    /// Who sends beside the worker that has the token.
+    pub courier: Courier,
     /// What stands between the workers and the book on disk.
     pub handover: Handover,
     /// Wakes the worker at the connection to the broker.
@@ -94,6 +97,7 @@ impl Hub {
         answers: Answers,
         flood: Flood,
         shelf: Shelf,
+        courier: Courier,
         bells: Bells,
         handover: Handover,
         output: Arc<Board, Global>,
@@ -130,6 +134,7 @@ impl Hub {
             flooded: Count::new(),
             refused_policies: Count::new(),
             shelf,
+            courier,
             handover,
             upstream,
             clock,

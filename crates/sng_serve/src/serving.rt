@@ -3,6 +3,7 @@
 use crate::beats::SystemBeats;
 use crate::beginning::FirstEnd;
 use crate::closing::accounts_of;
+use crate::courier::start_courier;
 use crate::descriptors::{EMPTY, hold};
 use crate::finishing::{Ran, Settled, finish};
 use crate::hub::Hub;
@@ -275,6 +276,7 @@ where
         watchers,
         keeper,
         reception,
+        courier: socket.try_clone().ok(),
     };
     let end = serve_by(rt, &hub, &socket, ears, followers, ask);
     if end.is_ok() {
@@ -294,6 +296,8 @@ struct Followers<K: Device + Drop> {
     watchers: Watchers,
     keeper: Option<Keeper<K>>,
     reception: Option<Reception>,
+    /// The socket by which the courier sends.
+    courier: Option<UdpSocket>,
 }
 
 /// Serves by the socket. The clock is set and the policy of the start in force before a worker reads.
@@ -458,11 +462,13 @@ fn run<
         },
         keeper,
         reception,
+        courier,
     } = followers;
     thread::scope(thread::scope_env(), rt, |scope| {
         let Some(printer) = start_printer(scope, rt, desk, hub, printer) else {
             return Ran::refused(Printed::none());
         };
+        start_courier(scope, rt, hub, courier);
         let crew = Crew {
             udp,
             upstream,
@@ -471,6 +477,7 @@ fn run<
         };
         let Some(workers) = start_workers(scope, rt, desk, hub, crew, gate) else {
             hub.end();
+            hub.courier.end(rt);
             return Ran::refused(printer.join(rt));
         };
         let reception = start_reception(scope, rt, desk, hub, reception);
@@ -514,6 +521,7 @@ fn start_workers<
     scope
         .spawn(move || {
             let left = run_workers(rt, rt.alloc(), desk.desk(), crew, gate);
+            hub.courier.end(rt);
             hub.end();
             left
         })

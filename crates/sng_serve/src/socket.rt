@@ -5,8 +5,9 @@ ghost use Rattle.sng_desk.specs.declared.source.Got.TheVariants.{Ended as ended_
 ghost use Rattle.sng_desk.specs.declared.source.Got.TheVariants.{Failed as failed_answer};
 
 use crate::hub::Hub;
+use crate::parcels::{Parcel, Sender, are_many, put_apart, send_own, send_parcels};
 use crate::udp_calls::receive_now;
-use sng_book::Address;
+use sng_book::{Address, Out};
 use sng_bounds::paths::{Paths, REST_MS};
 use sng_desk::{Datagrams, Got};
 use sng_frames::{MAX_DATAGRAM, write_disconnect};
@@ -14,6 +15,7 @@ use sng_operator::ask::socket_address;
 use sng_text::WireBytes;
 use std::alloc::{AllocError, Global};
 use std::io::{Error, ErrorKind};
+use std::mem;
 use std::net::{Ipv4Addr, Net, SocketAddr, SocketAddrV4, UdpSocket};
 use std::rt::Clock;
 use std::sync::Wait;
@@ -53,6 +55,8 @@ pub struct Socket<'a, R: Net + Clock + Wait> {
     errors: u32,
     /// How many datagrams of a burst it read, one after another.
     burst: u32,
+    /// What the courier is given, in room that is used again.
+    parcels: Vec<Parcel>,
 }
 
 impl<'a, R: Net + Clock + Wait> Socket<'a, R> {
@@ -82,6 +86,7 @@ impl<'a, R: Net + Clock + Wait> Socket<'a, R> {
             lost: 0,
             errors: 0,
             burst: 0,
+            parcels: Vec::new(alloc),
         })
     }
 
@@ -245,9 +250,43 @@ impl<'a, R: Net + Clock + Wait> Socket<'a, R> {
         }
     }
 
+    /// Gives the courier its part of these outs, where there are many. Whether it has it. The worker sends all while
+    /// some address rests, where one of the datagrams may be held back, where none is the courier's, and where no
+    /// memory is left.
+    fn share(&mut self, outs: &[Out]) -> bool
+        ensures { self.new ≡ record self.old { parcels = self.new.parcels } }
+    {
+        if self.rest_end != 0 || !are_many(outs) {
+            return false;
+        }
+        if put_apart(&mut self.parcels, outs, self.disconnect.as_slice())
+            && !self.parcels.is_empty()
+            && self.hub.courier.give(self.rt, &mut self.parcels)
+        {
+            return true;
+        }
+        self.parcels.clear();
+        false
+    }
+
+    /// Waits for the courier. The first one that did not leave by it is tried once more, with those behind it.
+    fn finish_shared(&mut self)
+        ensures unsent { self.old.unsent ≤ self.new.unsent }
+        ensures failures { self.new.failures ≡ self.old.failures }
+    {
+        let mut parcels = mem::replace(&mut self.parcels, Vec::new(self.alloc));
+        let sent = self.hub.courier.take_back(self.rt, &mut parcels);
+        if let Some(left) = parcels.as_slice().get(sent..) {
+            send_parcels(self, left);
+        }
+        parcels.clear();
+        self.parcels = parcels;
+    }
+
     /// A datagram is lost. Whether that could be counted.
     fn lose(&mut self) -> bool
         ensures lost { (result ≡ false) ↔ (self.old.unsent < self.new.unsent) }
+        ensures unsent { self.old.unsent ≤ self.new.unsent }
         ensures failures { self.new.failures ≡ self.old.failures }
     {
         if self.unsent == u64::MAX {
@@ -255,6 +294,27 @@ impl<'a, R: Net + Clock + Wait> Socket<'a, R> {
         }
         self.unsent += 1;
         false
+    }
+}
+
+impl<'a, R: Net + Clock + Wait> Sender for Socket<'a, R> {
+    ghost tells = { λ _. false };
+
+    ghost passed = { λ _. [] };
+
+    ghost failures = { λ s. s.failures };
+
+    ghost unsent = { λ s. s.unsent };
+
+    fn pass_on(&mut self, to: Address, datagram: &WireBytes) -> bool {
+        if !self.may_leave(to, datagram.as_slice()) {
+            return self.lose();
+        }
+        if !self.pass(to, datagram.as_slice()) {
+            self.hub.unsent.add(1);
+            return self.lose();
+        }
+        true
     }
 }
 
@@ -297,14 +357,16 @@ impl<'a, R: Net + Clock + Wait> Datagrams for Socket<'a, R> {
     }
 
     fn send(&mut self, to: Address, datagram: &WireBytes) -> bool {
-        if !self.may_leave(to, datagram.as_slice()) {
-            return self.lose();
+        self.pass_on(to, datagram)
+    }
+
+    /// Where there are many, the courier sends those to about half of the addresses meanwhile.
+    fn send_outs(&mut self, outs: &[Out]) {
+        let is_shared = self.share(outs);
+        send_own(self, outs, is_shared);
+        if is_shared {
+            self.finish_shared();
         }
-        if !self.pass(to, datagram.as_slice()) {
-            self.hub.unsent.add(1);
-            return self.lose();
-        }
-        true
     }
 
     fn ended(&self) -> bool {

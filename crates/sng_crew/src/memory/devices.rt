@@ -1,8 +1,9 @@
 //! Datagrams over memory.
-ghost use Rattle.std.specs.Prelude.{◌≡◌, ◌++◌, ◌∷◌, [], not, take, true};
+ghost use Rattle.std.specs.Prelude.{◌≡◌, ◌≤◌, ◌<◌, ◌↔◌, ◌++◌, ◌∷◌, [], false, not, take, true};
+ghost use Rattle.sng_desk.specs.Acts.{sends_in};
 
 use crate::memory::Calls;
-use sng_book::Address;
+use sng_book::{Address, Out};
 use sng_desk::{Datagrams, Got};
 use sng_text::WireBytes;
 use std::alloc::Global;
@@ -68,6 +69,59 @@ impl MemoryDatagrams {
         };
     }
 
+    /// Takes a datagram that is passed to it. Whether the call did not fail: else it is lost, and counted.
+    fn pass(&mut self, to: Address, datagram: &WireBytes) -> bool
+        ensures told { not self.new.has_lost ≡ true → not self.old.has_lost ≡ true }
+        ensures kept { not self.new.has_lost ≡ true → self.new.kept.items ≡ self.old.kept.items
+            ++ (to, datagram.now) ∷ [] }
+        ensures gave { (self.new.next ≡ self.old.next) × (self.new.datagrams ≡ self.old.datagrams) }
+        ensures lost { (result ≡ false) ↔ (self.old.unsent < self.new.unsent) }
+        ensures unsent { self.old.unsent ≤ self.new.unsent }
+        ensures failures { self.new.failures ≡ self.old.failures }
+        ensures over { self.new.is_over ≡ self.old.is_over }
+    {
+        self.keep(to, datagram);
+        if self.calls.fails() && self.unsent < u64::MAX {
+            self.unsent += 1;
+            return false;
+        }
+        true
+    }
+
+    /// Takes the datagram of an out, if it is one.
+    fn pass_out(&mut self, out: &Out)
+        ensures told { not self.new.has_lost ≡ true → not self.old.has_lost ≡ true }
+        ensures kept { not self.new.has_lost ≡ true → self.new.kept.items ≡ self.old.kept.items
+            ++ sends_in (out.now ∷ []) }
+        ensures gave { (self.new.next ≡ self.old.next) × (self.new.datagrams ≡ self.old.datagrams) }
+        ensures unsent { self.old.unsent ≤ self.new.unsent }
+        ensures failures { self.new.failures ≡ self.old.failures }
+        ensures over { self.new.is_over ≡ self.old.is_over }
+    {
+        match out {
+            Out::Send(to, datagram) => {
+                let _sent = self.pass(*to, datagram);
+            }
+            Out::Wire(_) => {}
+            Out::Note(_) => {}
+        }
+    }
+
+    /// Takes the datagrams among some outs, in order.
+    fn pass_outs(&mut self, outs: &[Out])
+        ensures told { not self.new.has_lost ≡ true → not self.old.has_lost ≡ true }
+        ensures kept { not self.new.has_lost ≡ true → self.new.kept.items ≡ self.old.kept.items
+            ++ sends_in outs.now }
+        ensures gave { (self.new.next ≡ self.old.next) × (self.new.datagrams ≡ self.old.datagrams) }
+        ensures unsent { self.old.unsent ≤ self.new.unsent }
+        ensures failures { self.new.failures ≡ self.old.failures }
+        ensures over { self.new.is_over ≡ self.old.is_over }
+    {
+        for out in outs {
+            self.pass_out(out);
+        }
+    }
+
     /// How many calls there were.
     pub fn calls(&self) -> &Calls {
         &self.calls
@@ -110,12 +164,11 @@ impl Datagrams for MemoryDatagrams {
     }
 
     fn send(&mut self, to: Address, datagram: &WireBytes) -> bool {
-        self.keep(to, datagram);
-        if self.calls.fails() && self.unsent < u64::MAX {
-            self.unsent += 1;
-            return false;
-        }
-        true
+        self.pass(to, datagram)
+    }
+
+    fn send_outs(&mut self, outs: &[Out]) {
+        self.pass_outs(outs);
     }
 
     fn ended(&self) -> bool {
