@@ -1,14 +1,14 @@
 #!/usr/bin/env python3
-"""plain.py [--instructions] [SNG]
+"""plain.py [--instructions | --runs N] [SNG]
 
 Plays the same scripts through SNG (if none is given, the build that `rt run` leaves in crates/sng/out/sng) and
 through a plain gateway (plain.rs, built on the spot by `rustc -O`), which decides by the same rules and prints
 the same text, and is not proved: publishes at QoS -1; publishes at QoS 1 with their acknowledgements; messages
 of the broker to 256 clients; and 256 sleeping clients for each of which 64 messages come to wait, and which
 then wake up in turn. Prints for each how many rows a second both make, or for messages to clients how many
-outs, and how the rates compare. Each figure is processor time, that of the middle of five runs, in which the
-two take turns. Fails where they print different texts. With --instructions it counts by valgrind's callgrind
-what one run of each takes, which other work on the machine does not change."""
+outs, and how the rates compare. Each figure is processor time, that of the middle of five runs, or of N with
+--runs, in which the two take turns. Fails where they print different texts. With --instructions it counts by
+valgrind's callgrind what one run of each takes, which other work on the machine does not change."""
 import os
 import re
 import resource
@@ -78,7 +78,7 @@ def are_same(programs, given):
     return printed[0] == printed[1] != b''
 
 
-def measure(programs, name, what, text, count, counts_instructions):
+def measure(programs, name, what, text, count, counts_instructions, runs):
     with tempfile.TemporaryFile() as given:
         given.write(text)
         if not are_same(programs, given):
@@ -89,8 +89,8 @@ def measure(programs, name, what, text, count, counts_instructions):
             print('%-24s sng %7.0f, plain %7.0f instructions for one of the %s, x %.2f'
                   % (name, sng, plain, what, plain / sng), flush=True)
             return True
-        turns = [[processor_seconds(words, given) for words in programs] for _ in range(RUNS)]
-    sng, plain = (count / sorted(of_one)[RUNS // 2] for of_one in zip(*turns))
+        turns = [[processor_seconds(words, given) for words in programs] for _ in range(runs)]
+    sng, plain = (count / sorted(of_one)[runs // 2] for of_one in zip(*turns))
     print('%-24s sng %9.0f, plain %9.0f %s a second, x %.2f' % (name, sng, plain, what, sng / plain), flush=True)
     return True
 
@@ -98,6 +98,9 @@ def measure(programs, name, what, text, count, counts_instructions):
 def main(arguments):
     counts_instructions = arguments[:1] == ['--instructions']
     arguments = arguments[counts_instructions:]
+    runs = RUNS
+    if arguments[:1] == ['--runs']:
+        runs, arguments = int(arguments[1]), arguments[2:]
     sng = arguments[0] if arguments else os.path.join(HERE, '..', 'crates', 'sng', 'out', 'sng')
     if shutil.which('rustc') is None:
         print('no rustc: there is no plain gateway')
@@ -107,7 +110,7 @@ def main(arguments):
         built = os.path.join(folder, 'plain')
         source = os.path.join(HERE, 'plain.rs')
         subprocess.run(['rustc', '--edition', '2021', '-O', '-o', built, source], check=True, timeout=SECONDS)
-        return 0 if all([measure(([sng, 'play'], [built]), *script, counts_instructions)
+        return 0 if all([measure(([sng, 'play'], [built]), *script, counts_instructions, runs)
                          for script in scripts(*sizes)]) else 1
 
 
