@@ -100,6 +100,9 @@ def main(arguments):
     arguments = arguments[counts_instructions:]
     runs = RUNS
     if arguments[:1] == ['--runs']:
+        if not arguments[1:] or not arguments[1].isdigit() or int(arguments[1]) == 0:
+            print('--runs wants a number of runs, 1 or more')
+            return 2
         runs, arguments = int(arguments[1]), arguments[2:]
     sng = arguments[0] if arguments else os.path.join(HERE, '..', 'crates', 'sng', 'out', 'sng')
     if shutil.which('rustc') is None:

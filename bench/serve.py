@@ -4,12 +4,13 @@
 Measures `sng serve` on loopback (SNG is the build that `rt run` leaves in crates/sng/out/sng, where none is
 given), beside plain programs that decide nothing (serve.c, built on the spot by `cc -O2`): a relay of UDP to
 TCP, and one that sends each message of the broker to each device, in one thread, with a thread beside it that
-waits for devices, with that thread and keeping what it sends, and with all that where another thread sends half. Prints how many PUBLISHes a second reach the
-broker at QoS -1 and at QoS 1, with 1, 2 and 4 workers, and at QoS 1 also by a policy that lets 16,000 be in
-flight where 128 may by default; how many of a burst of 10,000 reach it; how many messages of the broker a second
-reach 1, 10 and 100 devices; the median and the 99th percentile of a round trip in microseconds; the memory of a
-row; and what an idle gateway uses of a processor. Each figure is of payloads of 32 bytes, that of the run in the
-middle of several; plain program and gateway take turns."""
+waits for devices, with that thread and keeping what it sends, and with all that where another thread sends
+half. Prints how many PUBLISHes a second reach the broker at QoS -1 and at QoS 1, with 1, 2 and 4 workers, and
+at QoS 1 also by a policy that lets 16,000 be in flight where 128 may by default; how many of a burst of
+10,000 reach it; how many messages of the broker a second reach 1, 10 and 100 devices; the median and the 99th
+percentile of a round trip in microseconds; the memory of a row; and what an idle gateway uses of a processor.
+Each figure is of payloads of 32 bytes, that of the run in the middle of several; plain program and gateway
+take turns."""
 import json
 import os
 import re
