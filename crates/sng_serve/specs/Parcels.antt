@@ -3,7 +3,8 @@ use Rattle.std.specs.Prelude.{ℕ, ◌+◌, ◌%◌, ◌==◌, Bool, true, false
 use Rattle.std.specs.List.{filter}
 use Rattle.sng_book.specs.declared.address.Address.{Address}
 
--- the courier sends to the address
+-- the courier sends to the address: its last octet and its port add up to an odd number, as those of about half of
+-- all do, and each address is told by itself, so all that goes to it has one sender
 abbrev pub is_couriers : Address → Bool
 is_couriers to = (slice_index to.ip 3 + to.port) % 2 == 1
 

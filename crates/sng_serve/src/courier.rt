@@ -40,7 +40,8 @@ impl Courier {
         }
     }
 
-    /// Gives these parcels to the courier, where one waits. Whether it has them: the list is empty then.
+    /// Gives these parcels to the courier, where one waits. Whether it has them: the list is then the one with which the
+    /// parcels before them were taken back, or an empty one.
     pub fn give<R: Wait>(&self, rt: &R, parcels: &mut Vec<Parcel>) -> bool {
         let has_them = self.bag.lock(rt).give(parcels);
         if has_them {
